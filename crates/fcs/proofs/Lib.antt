@@ -1,0 +1,4 @@
+pub mod Xor
+pub mod Steps
+pub mod Table
+pub mod Laws

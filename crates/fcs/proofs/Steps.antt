@@ -1,0 +1,58 @@
+-- The bit steps of a check of any width: they are linear in ⊕, and keep to the width.
+-- Assumes nothing.
+use mathlib.Core.Path.{_≡_, refl}
+use Prim.Native.Nat.{ℕ, zero, suc, _+_, _*_, _/_, _%_, _^_, _<_}
+use native.Mathlib.Nat.{zero-mul, one-mul, add-zero, add-suc}
+use native.Mathlib.Omega.{arith}
+use lib.Bits.{shifted-half, shifted-even}
+use lib.Dec.{eqb}
+use lib.Pow.{pow-pos}
+use Rattle.fcs.specs.Notation.{if_then_else_, _⊕_}
+use Rattle.fcs.specs.CheckSequence.{Check, Sound, width, bitStep, bitSteps}
+use Rattle.fcs.proofs.Xor as xor
+
+module _ (k : Check) where
+  -- the step without its test: the polynomial as often as the lowest bit says
+  by-product : (r : ℕ) → bitStep k r ≡ r / 2 ⊕ r % 2 * k .polynomial
+  unfolding bitStep
+  by-product r =
+      xor.by-bit (λ b. (if eqb b 1 then r / 2 ⊕ k .polynomial else r / 2) ≡ r / 2 ⊕ b * k .polynomial)
+      (simp (zero-mul, xor.zero-right)) (simp one-mul) r
+
+  -- ---- linear: the steps work on the low bits and on the rest apart
+
+  bit-linear : (a b : ℕ) → bitStep k (a ⊕ b) ≡ bitStep k a ⊕ bitStep k b
+  bit-linear a b =
+      rw (by-product (a ⊕ b), by-product a, by-product b, xor.high a b 1, xor.low a b 1, xor.times, xor.regroup (a / 2) (b / 2))
+
+  linear : (n a b : ℕ) → bitSteps k n (a ⊕ b) ≡ bitSteps k n a ⊕ bitSteps k n b
+  unfolding bitSteps
+  linear zero a b = refl
+  linear (suc n) a b = rw bit-linear (linear n (bitStep k a) (bitStep k b))
+
+  bit-shifted : (n a : ℕ) → bitStep k (a * 2 ^ suc n) ≡ a * 2 ^ n
+  bit-shifted n a = rw (by-product, shifted-half, shifted-even, zero-mul, xor.zero-right)
+
+  shifted : (n a : ℕ) → bitSteps k n (a * 2 ^ n) ≡ a
+  unfolding bitSteps
+  shifted zero a = omega arith
+  shifted (suc n) a = rw bit-shifted (shifted n a)
+
+  pub apart : (n a b : ℕ) → bitSteps k n (a ⊕ b * 2 ^ n) ≡ bitSteps k n a ⊕ b
+  apart n a b = rw (linear, shifted)
+
+  pub steps-add : (m n a : ℕ) → bitSteps k (m + n) a ≡ bitSteps k m (bitSteps k n a)
+  unfolding bitSteps
+  steps-add m zero a = rw add-zero
+  steps-add m (suc n) a = rw add-suc (steps-add m n (bitStep k a))
+
+-- ---- the steps keep to the width
+
+pub bits-below : (k : Check) → Sound k → (n a : ℕ) → a < 2 ^ width k → bitSteps k n a < 2 ^ width k
+unfolding bitSteps
+bits-below k sound zero a h = h
+bits-below k sound (suc n) a h =
+    bits-below k sound n (bitStep k a)
+    (rw (by-product k a)
+    (xor.below (width k) (omega arith)
+    (xor.by-bit (λ b. b * k .polynomial < 2 ^ width k) (simp zero-mul (pow-pos (width k))) (simp one-mul (sound .fits)) a)))

@@ -1,0 +1,8 @@
+// The documents' vectors, run over the proved calls and compared. Each gives a line: ok or WRONG, what was asked, what was
+// answered and, where that is wrong, what was expected.
+mod check_sequence;
+mod line;
+
+fn main() {
+    check_sequence::run();
+}
