@@ -13,7 +13,7 @@ use Rattle.fcs.proofs.Xor as xor
 
 module _ (k : Check) where
   -- the step without its test: the polynomial as often as the lowest bit says
-  by-product : (r : ℕ) → bitStep k r ≡ r / 2 ⊕ r % 2 * k .polynomial
+  pub by-product : (r : ℕ) → bitStep k r ≡ r / 2 ⊕ r % 2 * k .polynomial
   unfolding bitStep
   by-product r =
       xor.by-bit (λ b. (if eqb b 1 then r / 2 ⊕ k .polynomial else r / 2) ≡ r / 2 ⊕ b * k .polynomial)

@@ -1,4 +1,4 @@
--- The check sequence, FCS (document 01, "Check sequence"; RFC 1662, 3.1 and C.2), for a check of any number of octets.
+-- The check sequence, FCS (docs/READING.md and document 01, "Check sequence"; RFC 1662, 3.1 and C.2), for a check of any number of octets.
 -- Assumes nothing.
 use mathlib.Core.Path.{_≡_}
 use mathlib.Core.Bool.{Bool}
@@ -8,7 +8,7 @@ use lib.Dec.{eqb}
 use lib.ListN.{getD}
 use Rattle.fcs.specs.Notation.{if_then_else_, _⊕_}
 
--- A check: the octets of its FCS, its polynomial (lowest bit first on the line), and the register at which a good frame ends.
+-- A check: the octets of its FCS, its polynomial (bits reversed, as the line sends low bits first), and the register at which a good frame ends.
 pub record Check : Type 0 where
   pub octets : ℕ
   pub polynomial : ℕ
