@@ -22,7 +22,11 @@ const TABLE: [u16; 256] = {
         let mut entry = i as u16;
         let mut bit = 0;
         while bit < 8 {
-            entry = if entry & 1 == 1 { entry >> 1 ^ 0x8408 } else { entry >> 1 };
+            entry = if entry & 1 == 1 {
+                entry >> 1 ^ 0x8408
+            } else {
+                entry >> 1
+            };
             bit += 1;
         }
         table[i] = entry;
@@ -33,7 +37,9 @@ const TABLE: [u16; 256] = {
 
 #[inline(never)]
 fn plain(start: u16, octets: &[u8]) -> u16 {
-    octets.iter().fold(start, |r, &octet| r >> 8 ^ TABLE[usize::from(r as u8 ^ octet)])
+    octets.iter().fold(start, |r, &octet| {
+        r >> 8 ^ TABLE[usize::from(r as u8 ^ octet)]
+    })
 }
 
 /// Octets that look like noise, the same in every run (xorshift).
@@ -54,10 +60,18 @@ fn compare() {
     for length in 0..=2051 {
         let part = &octets[length % 97..][..length];
         for start in [0xffff, 0, (length * 31) as u16] {
-            assert_eq!(proved(start, part), plain(start, part), "length {length}, start {start:04X}");
+            assert_eq!(
+                proved(start, part),
+                plain(start, part),
+                "length {length}, start {start:04X}"
+            );
         }
     }
-    assert_eq!(plain(0xffff, b"123456789"), 0x6f91, "RFC 1662's check of 31 .. 39");
+    assert_eq!(
+        plain(0xffff, b"123456789"),
+        0x6f91,
+        "RFC 1662's check of 31 .. 39"
+    );
 }
 
 /// Nanoseconds an octet.
@@ -76,7 +90,10 @@ fn main() {
     if std::env::args().any(|word| word == "compare") {
         return;
     }
-    println!("{:>7}  {:>22}  {:>22}  {:>5}", "octets", "proved, octets/s", "plain Rust, octets/s", "ratio");
+    println!(
+        "{:>7}  {:>22}  {:>22}  {:>5}",
+        "octets", "proved, octets/s", "plain Rust, octets/s", "ratio"
+    );
     for length in [2050, 1402, 42, 6] {
         let octets = noise(length);
         let calls = 40_000_000 / length;
@@ -85,6 +102,11 @@ fn main() {
             a = a.min(timed(proved, &octets, calls));
             b = b.min(timed(plain, &octets, calls));
         }
-        println!("{length:>7}  {:>20.0} M  {:>20.0} M  {:>5.2}", 1e3 / a, 1e3 / b, a / b);
+        println!(
+            "{length:>7}  {:>20.0} M  {:>20.0} M  {:>5.2}",
+            1e3 / a,
+            1e3 / b,
+            a / b
+        );
     }
 }

@@ -1,4 +1,5 @@
-pub mod Xor
-pub mod Steps
-pub mod Table
+-- The crates above see the laws alone.
+mod Xor
+mod Steps
+mod Table
 pub mod Laws

@@ -8,13 +8,13 @@ use lib.Dec.{eqb}
 use lib.ListN.{getD}
 use Rattle.fcs.specs.Notation.{if_then_else_, _⊕_}
 
--- A check: the octets of its FCS, its polynomial (bits reversed, as the line sends low bits first), and the register at which a good frame ends.
+-- A check: how many octets its FCS has, its polynomial (bits reversed, as the line sends low bits first), and where a good frame leaves the register.
 pub record Check : Type 0 where
   pub octets : ℕ
   pub polynomial : ℕ
   pub goodEnd : ℕ
 
--- the FCS of 16 bits
+-- the check of 16 bits
 abbrev pub check16 : Check
 check16 = record { octets = 2; polynomial = 0x8408; goodEnd = 0xF0B8 }
 
@@ -22,34 +22,35 @@ check16 = record { octets = 2; polynomial = 0x8408; goodEnd = 0xF0B8 }
 abbrev pub width : Check → ℕ
 width k = 8 * k .octets
 
--- The register with every bit set, FFFF at 16 bits: its start, and what a complement is taken from.
+-- every bit set, FFFF at 16 bits: where the register starts
 abbrev pub ones : Check → ℕ
 ones k = 2 ^ width k - 1
 
+-- every bit inverted
 abbrev pub complement : Check → ℕ → ℕ
 complement k r = ones k - r
 
 abbrev pub odd : ℕ → Bool
 odd r = eqb (r % 2) 1
 
--- one step: if odd, halve and xor the polynomial, else halve
+-- one bit step: halve, and xor the polynomial where the lowest bit was set
 unfoldable pub bitStep : Check → ℕ → ℕ
 bitStep k r = if odd r then r / 2 ⊕ k .polynomial else r / 2
 
--- n such steps
+-- n bit steps
 unfoldable pub bitSteps : Check → ℕ → ℕ → ℕ
 bitSteps k zero r = r
 bitSteps k (suc n) r = bitSteps k n (bitStep k r)
 
--- entry i of the table is i after eight steps
+-- the eight-step rule: what stands in the table at place i
 unfoldable pub entry : Check → ℕ → ℕ
 entry k i = bitSteps k 8 i
 
--- the table of 256 entries follows this rule at every place
+-- a list that is the check's table: the rule holds at each of 256 places
 pub record IsTable (k : Check) (t : List ℕ) : Type 0 where
   pub at : (i : ℕ) → i < 256 → getD t i 0 ≡ entry k i
 
--- the register after one octet more: shifted right by 8, xor the entry at (register xor octet) mod 256
+-- one octet: the register moves down by an octet, xor the entry that its low octet and the new octet pick
 unfoldable pub octetStep : Check → ℕ → ℕ → ℕ
 octetStep k r o = r / 256 ⊕ entry k ((r ⊕ o) % 256)
 
@@ -57,7 +58,7 @@ octetStep k r o = r / 256 ⊕ entry k ((r ⊕ o) % 256)
 unfoldable pub feed : Check → ℕ → List ℕ → ℕ
 feed k r s = foldl (octetStep k) r s
 
--- the register over a list, from its start
+-- the register over a list: fed from its start
 unfoldable pub register : Check → List ℕ → ℕ
 register k s = feed k (ones k) s
 
@@ -66,11 +67,11 @@ unfoldable pub lowFirst : ℕ → ℕ → List ℕ
 lowFirst zero v = []
 lowFirst (suc n) v = v % 256 ∷ lowFirst n (v / 256)
 
--- What follows a packet: the complement of its register, low octet first.
+-- the FCS, which is sent behind the packet
 unfoldable pub fcs : Check → List ℕ → List ℕ
 fcs k packet = lowFirst (k .octets) (complement k (register k packet))
 
--- A frame is good when the register over packet and FCS ends so.
+-- whether a frame, a packet and what is behind it, ends good
 unfoldable pub good : Check → List ℕ → Bool
 good k frame = eqb (register k frame) (k .goodEnd)
 

@@ -1,4 +1,5 @@
 // The check sequence's vectors: document 01, "Check sequence", "Marked frames and false friends" and refusal 14; RFC 1662, C.1 and C.2.
+// A register is shown high octet first.
 use crate::line;
 
 pub(crate) fn run() {
@@ -8,15 +9,15 @@ pub(crate) fn run() {
 
 // RFC 1662's table has 0, 1 and 255 right, document 01 gives 11 and 13, and RFC 1662's generator (C.1) the four others.
 fn entries() {
-    entry(0, 0x0000);
-    entry(1, 0x1189);
-    entry(11, 0xbed3);
-    entry(13, 0xdbe5);
-    entry(56, 0xbdcb);
-    entry(88, 0xdecd);
-    entry(107, 0xddd5);
-    entry(143, 0x7cff);
-    entry(255, 0x0f78);
+    entry(b"entry 0", 0, b"\x00\x00");
+    entry(b"entry 1", 1, b"\x11\x89");
+    entry(b"entry 11", 11, b"\xbe\xd3");
+    entry(b"entry 13", 13, b"\xdb\xe5");
+    entry(b"entry 56", 56, b"\xbd\xcb");
+    entry(b"entry 88", 88, b"\xde\xcd");
+    entry(b"entry 107", 107, b"\xdd\xd5");
+    entry(b"entry 143", 143, b"\x7c\xff");
+    entry(b"entry 255", 255, b"\x0f\x78");
 }
 
 // Document 01's marked frames (d), (a) and (c), the empty packet of its false friends, and refusal 14's example.
@@ -28,24 +29,15 @@ fn frames() {
     good(b"1111", false);
 }
 
-fn register(got: u16, expected: u16) {
-    line::register(got);
-    if got != expected {
-        line::text(b", not");
-        line::register(expected);
-    }
-    line::text(b"\n");
+fn high_first(register: u16) -> [u8; 2] {
+    [(register / 256 % 256) as u8, (register % 256) as u8]
 }
 
 // A register of 0 fed the octet i is entry i.
-fn entry(place: u8, expected: u16) {
+fn entry(name: &[u8], place: u8, expected: &[u8]) {
     let octet = [place];
-    let got = fcs::pppfcs16(0, &octet);
-    line::verdict(got == expected);
-    line::text(b"entry ");
-    line::decimal(place as u64);
-    line::text(b":");
-    register(got, expected);
+    let register = high_first(fcs::pppfcs16(0, &octet));
+    line::compare(name, b"", &register, expected);
 }
 
 // A packet and its FCS: the FCS is that, the register over both ends at F0B8, and the frame is good.
@@ -54,39 +46,15 @@ fn frame(octets: &[u8]) {
         return;
     }
     let n = octets.len() - 2;
-    fcs(&octets[0..n], &octets[n..]);
-    let end = fcs::register16(octets);
-    line::verdict(end == 0xf0b8);
-    line::text(b"register over");
-    line::octets(octets);
-    line::text(b":");
-    register(end, 0xf0b8);
+    let sequence = fcs::fcs16(&octets[0..n]);
+    line::compare(b"FCS of", &octets[0..n], &sequence, &octets[n..]);
+    let register = high_first(fcs::register16(octets));
+    line::compare(b"register over", octets, &register, b"\xf0\xb8");
     good(octets, true);
 }
 
-fn fcs(packet: &[u8], expected: &[u8]) {
-    let got = fcs::fcs16(packet);
-    let right = check::same(&got, expected);
-    line::verdict(right);
-    line::text(b"FCS of");
-    line::octets(packet);
-    line::text(b":");
-    line::octets(&got);
-    if !right {
-        line::text(b", not");
-        line::octets(expected);
-    }
-    line::text(b"\n");
-}
-
 fn good(octets: &[u8], expected: bool) {
-    let got = fcs::good16(octets);
-    line::verdict(got == expected);
-    if got {
-        line::text(b"good:");
-    } else {
-        line::text(b"not good:");
-    }
-    line::octets(octets);
-    line::text(b"\n");
+    let answer = [fcs::good16(octets) as u8];
+    let right = [expected as u8];
+    line::compare(b"good", octets, &answer, &right);
 }

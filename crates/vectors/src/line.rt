@@ -1,22 +1,10 @@
-// The parts of a line.
+// A line for each vector.
 use libc::STDOUT_FILENO;
 
 const DIGITS: [u8; 16] = *b"0123456789ABCDEF";
 
-pub(crate) fn text(words: &[u8]) {
+fn text(words: &[u8]) {
     io::write_all(STDOUT_FILENO, words);
-}
-
-pub(crate) fn verdict(right: bool) {
-    if right {
-        text(b"ok    ");
-    } else {
-        text(b"WRONG ");
-    }
-}
-
-pub(crate) fn decimal(n: u64) {
-    io::print_decimal(STDOUT_FILENO, n);
 }
 
 fn digit(n: u8) -> u8 {
@@ -29,7 +17,7 @@ fn octet(n: u8) {
     text(&word);
 }
 
-pub(crate) fn octets(list: &[u8]) {
+fn octets(list: &[u8]) {
     let mut i = 0;
     while i < list.len() {
         octet(list[i]);
@@ -37,16 +25,21 @@ pub(crate) fn octets(list: &[u8]) {
     }
 }
 
-// A register as four hexadecimal capitals, with a space before them.
-pub(crate) fn register(r: u16) {
-    let high = (r / 256 % 256) as u8;
-    let low = (r % 256) as u8;
-    let word = [
-        b' ',
-        digit(high / 16),
-        digit(high),
-        digit(low / 16),
-        digit(low),
-    ];
-    text(&word);
+// ok or WRONG, what was asked and of which octets, and the answer; where it is wrong, also the one expected.
+pub(crate) fn compare(asked: &[u8], of: &[u8], answer: &[u8], expected: &[u8]) {
+    let right = check::same(answer, expected);
+    if right {
+        text(b"ok    ");
+    } else {
+        text(b"WRONG ");
+    }
+    text(asked);
+    octets(of);
+    text(b":");
+    octets(answer);
+    if !right {
+        text(b", not");
+        octets(expected);
+    }
+    text(b"\n");
 }
