@@ -26,7 +26,7 @@ width k = 8 * k .octets
 abbrev pub ones : Check → ℕ
 ones k = 2 ^ width k - 1
 
--- every bit inverted
+-- every bit of a register inverted
 abbrev pub complement : Check → ℕ → ℕ
 complement k r = ones k - r
 
@@ -75,8 +75,8 @@ fcs k packet = lowFirst (k .octets) (complement k (register k packet))
 unfoldable pub good : Check → List ℕ → Bool
 good k frame = eqb (register k frame) (k .goodEnd)
 
--- What the laws ask of a check's three numbers: the FCS has an octet, the polynomial fits the register, and the good end is every bit
--- set after a step for each bit.
+-- What the laws ask of a check's three numbers: the FCS has an octet, the polynomial fits the register, and the good end is what a bit
+-- step for each bit of the register makes of its start.
 pub record Sound (k : Check) : Type 0 where
   pub some : 0 < k .octets
   pub fits : k .polynomial < 2 ^ width k
