@@ -1,0 +1,86 @@
+-- Lists of blocks: what they decode to, what they are on the line, and that a list is read back from that.
+-- Assumes nothing.
+use mathlib.Core.Path.{_≡_, refl, ap, sym}
+use mathlib.Core.Bool.{Bool}
+use mathlib.Core.Logic.{⊎-elim}
+use mathlib.Core.List.{List, [], _∷_, _++_, map, flatMap, List·Memᴰ, List·Memᴰ·head, List·Memᴰ·tail, List·Memᴰ·not-nil, List·Memᴰ·append-cases, Memᴰ·of-map}
+use mathlib.Core.Option.{some}
+use Prim.Native.Nat.{ℕ, zero, suc, _+_, _≤_, _<_}
+use native.Mathlib.Omega.{arith}
+use borrow.Author.Tests.{le-leb}
+use lib.ListN.{length, replicate, length-append}
+use lib.Seq.{take-append-seam, drop-append-seam}
+use Rattle.cobs.specs.CodeBlocks.{flag, toLine, fromLine, Block, Allowed, AllAllowed, zerosAfter, decoded, onLine, parse, readBlocks}
+use Rattle.cobs.proofs.Table.{read-row, numbers}
+use Rattle.cobs.proofs.Exchange.{no-flag, turned-back}
+
+-- ---- lists of blocks
+
+pub decoded-nil : decoded [] ≡ []
+unfolding decoded flatMap
+decoded-nil = refl
+
+pub decoded-cons : (b : Block) (bs : List Block) → decoded (b ∷ bs) ≡ b .octets ++ replicate (zerosAfter b) 0 ++ decoded bs
+unfolding decoded flatMap
+decoded-cons b bs = refl
+
+pub on-line-nil : onLine [] ≡ []
+unfolding onLine flatMap
+on-line-nil = refl
+
+pub on-line-cons : (b : Block) (bs : List Block) → onLine (b ∷ bs) ≡ toLine (b .code) ∷ (map toLine (b .octets) ++ onLine bs)
+unfolding onLine flatMap
+on-line-cons b bs = refl
+
+length-map : (f : ℕ → ℕ) (l : List ℕ) → length (map f l) ≡ length l
+length-map f [] = refl
+length-map f (x ∷ l) = ap suc (length-map f l)
+
+pub line-length : (b : Block) (bs : List Block) → length (onLine (b ∷ bs)) ≡ 1 + length (b .octets) + length (onLine bs)
+line-length b bs = omega (arith, ap length (on-line-cons b bs), length-append (map toLine (b .octets)) (onLine bs), length-map toLine (b .octets))
+
+-- no flag is among them
+pub line-flagless : (bs : List Block) → List·Memᴰ flag (onLine bs) → ⊥
+unfolding onLine flatMap
+line-flagless [] m = List·Memᴰ·not-nil m
+line-flagless (b ∷ bs) m =
+    ⊎-elim (λ h. let w = Memᴰ·of-map toLine (b .code ∷ b .octets) h in no-flag (w .0) (w .2)) (line-flagless bs)
+    (List·Memᴰ·append-cases (map toLine (b .code ∷ b .octets)) m)
+
+-- ---- reading them back
+
+-- octets that are not zero are turned back
+map-back : (l : List ℕ) → (List·Memᴰ 0 l → ⊥) → map fromLine (map toLine l) ≡ l
+map-back [] h = refl
+map-back (x ∷ l) h = rw (turned-back x (λ e. h (List·Memᴰ·head (sym e))), map-back l (λ m. h (List·Memᴰ·tail m)))
+
+map-append : (f : ℕ → ℕ) (s t : List ℕ) → map f (s ++ t) ≡ map f s ++ map f t
+map-append f [] t = refl
+map-append f (x ∷ s) t = ap (λ (l : List ℕ). f x ∷ l) (map-append f s t)
+
+-- the octets of blocks, not yet exchanged
+turned : (zxe : Bool) (b : Block) (bs : List Block) → Allowed zxe b
+    → map fromLine (onLine (b ∷ bs)) ≡ b .code ∷ (b .octets ++ map fromLine (onLine bs))
+turned zxe b bs a =
+    let k = numbers (read-row zxe (b .code) _ _ (a .agreed)) .code-some in
+    rw (on-line-cons b bs, turned-back (b .code) (λ e. omega arith), map-append fromLine (map toLine (b .octets)) (onLine bs), map-back (b .octets) (a .nonzero))
+
+module _ (zxe : Bool) where
+  parse-line : (n : ℕ) (bs : List Block) → AllAllowed zxe bs → length bs < n → parse zxe n (map fromLine (onLine bs)) ≡ some bs
+  unfolding parse
+  parse-line zero bs all h = absurd (omega arith)
+  parse-line (suc n) [] all h = rw on-line-nil
+  parse-line (suc n) (b ∷ bs) all h =
+      let a = all b (List·Memᴰ·head refl) in
+      let rest = map fromLine (onLine bs) in
+      let ih : parse zxe n rest ≡ some bs = parse-line n bs (λ x m. all x (List·Memᴰ·tail m)) (omega arith) in
+      rw (turned zxe b bs a, a .agreed, le-leb (length (b .octets)) (length (b .octets ++ rest)) (omega (arith, length-append (b .octets) rest)), drop-append-seam (b .octets) rest, ih, take-append-seam (b .octets) rest)
+
+  fewer : (bs : List Block) → length bs ≤ length (onLine bs)
+  fewer [] = omega arith
+  fewer (b ∷ bs) = omega (arith, fewer bs, line-length b bs)
+
+  -- every list of allowed blocks is read back from its octets, and so no other list has the same
+  pub reads-back : (bs : List Block) → AllAllowed zxe bs → readBlocks zxe (onLine bs) ≡ some bs
+  unfolding readBlocks
+  reads-back bs all = parse-line (length (onLine bs) + 1) bs all (omega (arith, fewer bs))

@@ -1,0 +1,23 @@
+-- 7E and 00 exchanged: nothing on the line within a frame is a flag, and turning it back gives the octet.
+-- Assumes nothing.
+use mathlib.Core.Path.{_≡_, refl, sym}
+use Prim.Native.Nat.{ℕ}
+use borrow.Author.Tests.{eqb-true, eqb-false, ne-eqb}
+use lib.Dec.{eqb}
+use Rattle.fcs.specs.Notation.{if_then_else_}
+use Rattle.cobs.specs.CodeBlocks.{flag, toLine, fromLine}
+use Rattle.cobs.proofs.Tests.{branch}
+
+pub no-flag : (x : ℕ) → toLine x ≡ flag → ⊥
+unfolding toLine
+no-flag x = branch (λ y. y ≡ flag → ⊥) (eqb x flag) (λ e q. eqb-false 0 flag refl q) (λ e q. eqb-false x flag e q)
+
+-- an octet that is not zero
+module _ (x : ℕ) (some : x ≡ 0 → ⊥) where
+  pub from-line : fromLine x ≡ x
+  unfolding fromLine
+  from-line = rw (ne-eqb x 0 some)
+
+  pub turned-back : fromLine (toLine x) ≡ x
+  unfolding toLine fromLine
+  turned-back = branch (λ y. (if eqb y 0 then flag else y) ≡ x) (eqb x flag) (λ e. sym (eqb-true x flag e)) (λ e. rw (ne-eqb x 0 some))

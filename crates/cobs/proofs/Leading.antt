@@ -1,0 +1,83 @@
+-- The count of leading octets that pass a test: what it counts, where it stops, and the turns of a loop that counts.
+-- Assumes nothing.
+use mathlib.Core.Path.{_≡_, refl}
+use mathlib.Core.Bool.{Bool, true, false, not}
+use mathlib.Core.List.{List, [], _∷_}
+use Prim.Native.Nat.{ℕ, zero, suc, _+_, _-_, _≤_, _<_}
+use native.Mathlib.Numerals.{add-one}
+use native.Mathlib.Omega.{arith}
+use borrow.Author.Tests.{eqb-true, eqb-false, ltb-true, ltb-false, not-true, not-false}
+use lib.Dec.{ltb, eqb}
+use lib.ListN.{length, drop, getD}
+use lib.Seq.{drop-cons}
+use Rattle.cobs.specs.CodeBlocks.{leading, zeros, nonzeros}
+use Rattle.cobs.proofs.Tests.{branch, decide}
+
+module _ (test : ℕ → Bool) where
+  pub at-most : (n : ℕ) (l : List ℕ) → leading test n l ≤ n
+  unfolding leading
+  at-most zero l = omega arith
+  at-most (suc n) [] = omega arith
+  at-most (suc n) (x ∷ l) = branch (λ k. k ≤ suc n) (test x) (λ e. omega (arith, at-most n l)) (λ e. omega arith)
+
+  pub within : (n : ℕ) (l : List ℕ) → leading test n l ≤ length l
+  unfolding leading
+  within zero l = omega arith
+  within (suc n) [] = omega arith
+  within (suc n) (x ∷ l) = branch (λ k. k ≤ suc (length l)) (test x) (λ e. omega (arith, within n l)) (λ e. omega arith)
+
+  -- each octet that is counted passes
+  pub passes : (n : ℕ) (l : List ℕ) (i : ℕ) → i < leading test n l → test (getD l i 0) ≡ true
+  unfolding leading
+  passes zero l i = λ h. absurd (omega arith)
+  passes (suc n) [] i = λ h. absurd (omega arith)
+  passes (suc n) (x ∷ l) zero = branch (λ k. 0 < k → test x ≡ true) (test x) (λ e h. e) (λ e h. absurd (omega arith))
+  passes (suc n) (x ∷ l) (suc i) =
+      branch (λ k. suc i < k → test (getD l i 0) ≡ true) (test x) (λ e h. passes n l i (omega arith)) (λ e h. absurd (omega arith))
+
+  -- the one behind them does not
+  pub stops : (n : ℕ) (l : List ℕ) → leading test n l < n → leading test n l < length l → test (getD l (leading test n l) 0) ≡ false
+  unfolding leading
+  stops zero l = λ h k. absurd (omega arith)
+  stops (suc n) [] = λ h k. absurd (omega arith)
+  stops (suc n) (x ∷ l) =
+      branch (λ k. k < suc n → k < suc (length l) → test (getD (x ∷ l) k 0) ≡ false) (test x)
+      (λ e h k. stops n l (omega arith) (omega arith)) (λ e h k. e)
+
+  -- a turn of a loop: the octet passes, or it does not, or the limit is reached
+  pub turn : (n m : ℕ) (l : List ℕ) (i : ℕ) → i < length l → n ≡ m + 1 → test (getD l i 0) ≡ true
+      → leading test n (drop i l) ≡ leading test m (drop (i + 1) l) + 1
+  unfolding leading
+  turn n m l i h e t = rw (e, add-one i, add-one m, add-one (leading test m (drop (suc i) l)), drop-cons l i 0, t)
+
+  pub fails : (n : ℕ) (l : List ℕ) (i : ℕ) → i < length l → test (getD l i 0) ≡ false → leading test n (drop i l) ≡ 0
+  unfolding leading
+  fails zero l i h t = refl
+  fails (suc n) l i h t = rw (drop-cons l i 0, t)
+
+  pub limit : (n : ℕ) (l : List ℕ) → n ≡ 0 → leading test n l ≡ 0
+  unfolding leading
+  limit n l e = rw e
+
+-- ---- the two counts
+
+pub zeros-at : (n : ℕ) (l : List ℕ) (i : ℕ) → i < zeros n l → getD l i 0 ≡ 0
+zeros-at n l i h = eqb-true (getD l i 0) 0 (passes (λ x. eqb x 0) n l i h)
+
+pub nonzeros-at : (n : ℕ) (l : List ℕ) (i : ℕ) → i < nonzeros n l → getD l i 0 ≡ 0 → ⊥
+nonzeros-at n l i h = eqb-false (getD l i 0) 0 (not-true _ (passes (λ x. not (eqb x 0)) n l i h))
+
+pub nonzeros-end : (n : ℕ) (l : List ℕ) → nonzeros n l < n → nonzeros n l < length l → getD l (nonzeros n l) 0 ≡ 0
+nonzeros-end n l h k = eqb-true (getD l (nonzeros n l) 0) 0 (not-false _ (stops (λ x. not (eqb x 0)) n l h k))
+
+-- a list whose last octet is zero, as D and its rests are; or empty
+abbrev pub EndsInZero : List ℕ → Type 0
+EndsInZero l = getD l (length l - 1) 0 ≡ 0
+
+-- the octets before the first zero are not all
+pub nonzeros-inside : (n : ℕ) (l : List ℕ) → 0 < length l → EndsInZero l → nonzeros n l < length l
+nonzeros-inside n l h e =
+    decide (ltb (nonzeros n l) (length l)) (ltb-true (nonzeros n l) (length l))
+    (λ t.
+    let all : length l ≤ nonzeros n l = ltb-false (nonzeros n l) (length l) t in
+    absurd (nonzeros-at n l (length l - 1) (omega arith) e))

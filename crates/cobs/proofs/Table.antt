@@ -1,0 +1,119 @@
+-- The code table, row by row.
+-- Assumes nothing.
+use mathlib.Core.Path.{_≡_, refl, ap, _∙_}
+use mathlib.Core.Bool.{Bool, true, false, not, _&&_}
+use Prim.Native.Nat.{ℕ, _+_, _-_, _≤_, _<_}
+use native.Mathlib.Omega.{arith}
+use borrow.Author.Needs.{needs}
+use borrow.Author.Tests.{leb-true, eqb-true, le-leb, lt-leb, ne-eqb, not-false}
+use lib.Dec.{leb, eqb}
+use Rattle.cobs.specs.CodeBlocks.{Meaning, Counts, NotAgreed, NoCode, within, codeTable, meaning}
+use Rattle.cobs.proofs.Tests.{branch, and-left, and-right}
+
+module _ (zxe : Bool) (c : ℕ) where
+  -- 01-CF and D0, under either setting
+  pub plain : 1 ≤ c → c ≤ 0xCF → meaning zxe c ≡ Counts (c - 1) 1
+  unfolding meaning codeTable
+  plain h k = rw (lt-leb 0xD3 c (omega arith), le-leb 0x01 c h, le-leb c 0xCF k)
+
+  pub full : c ≡ 0xD0 → meaning zxe c ≡ Counts 207 0
+  unfolding meaning codeTable
+  full e = rw e
+
+  -- D3-DF and E0-FE, where ZXE allows them
+  pub run : zxe ≡ true → 0xD3 ≤ c → c ≤ 0xDF → meaning zxe c ≡ Counts 0 (c - 0xD0)
+  unfolding meaning codeTable
+  run on h k = rw (on, le-leb 0xD3 c h, le-leb c 0xFE (omega arith), le-leb 0x01 c (omega arith), lt-leb c 0xCF (omega arith), ne-eqb c 0xD0 (λ e. omega arith), le-leb c 0xDF k)
+
+  pub pair : zxe ≡ true → 0xE0 ≤ c → c ≤ 0xFE → meaning zxe c ≡ Counts (c - 0xE0) 2
+  unfolding meaning codeTable
+  pair on h k = rw (on, le-leb 0xD3 c (omega arith), le-leb c 0xFE k, le-leb 0x01 c (omega arith), lt-leb c 0xCF (omega arith), ne-eqb c 0xD0 (λ e. omega arith), lt-leb c 0xDF (omega arith), le-leb 0xE0 c h)
+
+  -- without it they are not agreed
+  pub not-agreed : zxe ≡ false → 0xD3 ≤ c → c ≤ 0xFE → meaning zxe c ≡ NotAgreed
+  unfolding meaning
+  not-agreed off h k = rw (off, le-leb 0xD3 c h, le-leb c 0xFE k)
+
+  -- zero, D1 and D2, and FF are no codes
+  pub unused : c ≡ 0 → meaning zxe c ≡ NoCode
+  unfolding meaning codeTable
+  unused e = rw e
+
+  pub reserved : 0xD1 ≤ c → c ≤ 0xD2 → meaning zxe c ≡ NoCode
+  unfolding meaning codeTable
+  reserved h k =
+      rw (lt-leb 0xD3 c (omega arith), le-leb 0x01 c (omega arith), lt-leb c 0xCF (omega arith), ne-eqb c 0xD0 (λ e. omega arith), lt-leb 0xE0 c (omega arith))
+
+  pub above : 0xFF ≤ c → meaning zxe c ≡ NoCode
+  unfolding meaning codeTable
+  above h =
+      rw (le-leb 0xD3 c (omega arith), lt-leb c 0xFE h, le-leb 0x01 c (omega arith), lt-leb c 0xCF (omega arith), ne-eqb c 0xD0 (λ e. omega arith), lt-leb c 0xDF (omega arith), le-leb 0xE0 c (omega arith))
+
+-- an agreed code is in the table as it is under the setting
+pub agreed-table : (zxe : Bool) (c n z : ℕ) → meaning zxe c ≡ Counts n z → codeTable c ≡ Counts n z
+unfolding meaning
+agreed-table zxe c n z =
+    branch (λ m. m ≡ Counts n z → codeTable c ≡ Counts n z) (within 0xD3 0xFE c && not zxe) (λ e q. absurd (let w : _≡_ {A = ℕ} 0 1 = cc in omega arith)) (λ e q. q)
+
+-- ---- the four rows as one view: a code that is agreed, its data octets and its zeros
+
+pub data Row (zxe : Bool) : ℕ → ℕ → ℕ → Type 0 where
+  plain-row : (k : ℕ) → k < 207 → Row zxe (k + 1) k 1
+  full-row : Row zxe 0xD0 207 0
+  run-row : (z : ℕ) → zxe ≡ true → 3 ≤ z → z ≤ 15 → Row zxe (0xD0 + z) 0 z
+  pair-row : (k : ℕ) → zxe ≡ true → k ≤ 30 → Row zxe (0xE0 + k) k 2
+
+pub row-read : {zxe : Bool} {c n z : ℕ} → Row zxe c n z → meaning zxe c ≡ Counts n z
+row-read {zxe} (plain-row k h) = plain zxe (k + 1) (omega arith) (omega arith) ∙ ap (λ (n : ℕ). Counts n 1) (omega arith)
+row-read {zxe} full-row = full zxe 0xD0 refl
+row-read {zxe} (run-row z on h k) = run zxe (0xD0 + z) on (omega arith) (omega arith) ∙ ap (Counts 0) (omega arith)
+row-read {zxe} (pair-row k on h) = pair zxe (0xE0 + k) on (omega arith) (omega arith) ∙ ap (λ (n : ℕ). Counts n 2) (omega arith)
+
+row-at : {zxe : Bool} {c n z d m y : ℕ} → Row zxe c n z → d ≡ c → m ≡ n → y ≡ z → Row zxe d m y
+row-at r e f g = rw (e, f, g) r
+
+pub read-row : (zxe : Bool) (c n z : ℕ) → meaning zxe c ≡ Counts n z → Row zxe c n z
+unfolding meaning codeTable
+read-row zxe c n z =
+    branch Read (within 0xD3 0xFE c && not zxe) (λ e q. absurd (let w : _≡_ {A = ℕ} 0 1 = cc in omega arith))
+    (λ off. branch Read (within 0x01 0xCF c)
+    (λ e q.
+    let h : 0x01 ≤ c = leb-true 0x01 c (and-left (leb 0x01 c) (leb c 0xCF) e) in
+    let k : c ≤ 0xCF = leb-true c 0xCF (and-right (leb 0x01 c) (leb c 0xCF) e) in
+    row-at (plain-row (c - 1) (omega arith)) (omega arith) (cc) (cc))
+    (λ _. branch Read (eqb c 0xD0) (λ e q. row-at full-row (eqb-true c 0xD0 e) (cc) (cc))
+    (λ _. branch Read (within 0xD3 0xDF c)
+    (λ e q.
+    let h : 0xD3 ≤ c = leb-true 0xD3 c (and-left (leb 0xD3 c) (leb c 0xDF) e) in
+    let k : c ≤ 0xDF = leb-true c 0xDF (and-right (leb 0xD3 c) (leb c 0xDF) e) in
+    row-at (run-row (c - 0xD0) (on off h (omega arith)) (omega arith) (omega arith)) (omega arith) (cc) (cc))
+    (λ _. branch Read (within 0xE0 0xFE c)
+    (λ e q.
+    let h : 0xE0 ≤ c = leb-true 0xE0 c (and-left (leb 0xE0 c) (leb c 0xFE) e) in
+    let k : c ≤ 0xFE = leb-true c 0xFE (and-right (leb 0xE0 c) (leb c 0xFE) e) in
+    row-at (pair-row (c - 0xE0) (on off (omega arith) k) (omega arith)) (omega arith) (cc) (cc))
+    (λ _ q. absurd (let w : _≡_ {A = ℕ} 0 1 = cc in omega arith))))))
+  where
+    Read : Meaning → Type 0
+    Read m = m ≡ Counts n z → Row zxe c n z
+
+    on : (within 0xD3 0xFE c && not zxe) ≡ false → 0xD3 ≤ c → c ≤ 0xFE → zxe ≡ true
+    on off h k = not-false zxe (rw (le-leb 0xD3 c h, le-leb c 0xFE k) at off)
+
+-- what follows of the three numbers
+pub record Numbers (c n z : ℕ) : Type 0 where
+  pub code-some : 0 < c
+  pub code-below : c < 0xFF
+  pub code-used : c ≡ 0xD1 → ⊥
+  pub octets-most : n ≤ 207
+  pub zeros-most : z ≤ 15
+  pub zeros-few : 0 < n → z ≤ 2
+  pub covers : 0 < n + z
+  pub full-zeros : c ≡ 0xD0 → z ≡ 0
+  pub none-full : z ≡ 0 → (c ≡ 0xD0) × (n ≡ 207)
+
+pub numbers : {zxe : Bool} {c n z : ℕ} → Row zxe c n z → Numbers c n z
+numbers (plain-row k h) = search needs
+numbers full-row = search needs
+numbers (run-row z on h k) = search needs
+numbers (pair-row k on h) = search needs

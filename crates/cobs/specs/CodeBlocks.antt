@@ -1,0 +1,158 @@
+-- Code blocks (docs/READING.md and document 01, "Code blocks"; the COBS draft, 3 to 3.3).
+-- Assumes nothing.
+use mathlib.Core.Path.{_≡_}
+use mathlib.Core.Bool.{Bool, not, _&&_}
+use mathlib.Core.List.{List, [], _∷_, _++_, map, flatMap, List·Memᴰ}
+use mathlib.Core.Option.{Option, none, some, Option·map}
+use Prim.Native.Nat.{ℕ, zero, suc, _+_, _-_}
+use lib.Dec.{leb, eqb}
+use lib.ListN.{length, take, drop, replicate}
+use Rattle.fcs.specs.CheckSequence.{Check, fcs}
+use Rattle.fcs.specs.Notation.{if_then_else_}
+pub use Rattle.cobs.specs.declared.Meaning.{Meaning}
+pub use Rattle.cobs.specs.declared.Meaning.the-variants.{Counts, NotAgreed, NoCode}
+pub use Rattle.cobs.specs.declared.Choice.{Choice}
+
+-- ---- the frame
+
+-- F: a packet and its FCS
+abbrev pub frame : Check → List ℕ → List ℕ
+frame k packet = packet ++ fcs k packet
+
+-- D: a frame and one zero, the phantom
+abbrev pub withPhantom : List ℕ → List ℕ
+withPhantom f = f ++ (0 ∷ [])
+
+-- ---- the code table
+
+abbrev pub within : ℕ → ℕ → ℕ → Bool
+within first last c = leb first c && leb c last
+
+-- How many data octets follow a code, and how many zeros stand after them. D1, D2, FF and zero are no codes.
+unfoldable pub codeTable : ℕ → Meaning
+codeTable c =
+    if within 0x01 0xCF c then Counts (c - 1) 1
+    else if eqb c 0xD0 then Counts 207 0
+    else if within 0xD3 0xDF c then Counts 0 (c - 0xD0)
+    else if within 0xE0 0xFE c then Counts (c - 0xE0) 2
+    else NoCode
+
+-- A code under the setting ZXE, which alone allows D3-FE.
+unfoldable pub meaning : Bool → ℕ → Meaning
+meaning zxe c = if within 0xD3 0xFE c && not zxe then NotAgreed else codeTable c
+
+-- ---- 7E and 00 exchanged
+
+abbrev pub flag : ℕ
+flag = 0x7E
+
+-- within a frame every 7E, code or data, is sent as 00,
+unfoldable pub toLine : ℕ → ℕ
+toLine x = if eqb x flag then 0 else x
+
+-- and a 00 is turned back
+unfoldable pub fromLine : ℕ → ℕ
+fromLine x = if eqb x 0 then flag else x
+
+-- ---- the sender's choice
+
+-- how many octets at the head of a list pass a test, counted no further than n
+unfoldable pub leading : (ℕ → Bool) → ℕ → List ℕ → ℕ
+leading test zero l = 0
+leading test (suc n) [] = 0
+leading test (suc n) (x ∷ l) = if test x then suc (leading test n l) else 0
+
+abbrev pub zeros : ℕ → List ℕ → ℕ
+zeros = leading (λ x. eqb x 0)
+
+abbrev pub nonzeros : ℕ → List ℕ → ℕ
+nonzeros = leading (λ x. not (eqb x 0))
+
+-- at a rest of D: the code of the next block, its data octets and its zeros
+unfoldable pub choice : Bool → List ℕ → Choice
+choice zxe rest =
+    let run = zeros 15 rest in
+    let k = nonzeros 207 rest in
+    if zxe && leb 3 run then record { code = 0xD0 + run; octets = 0; zeros = run }
+    else if eqb k 207 then record { code = 0xD0; octets = 207; zeros = 0 }
+    else if zxe && leb k 30 && eqb (zeros 2 (drop k rest)) 2 then record { code = 0xE0 + k; octets = k; zeros = 2 }
+    else record { code = k + 1; octets = k; zeros = 1 }
+
+-- ---- lists of blocks
+
+-- a block: a code octet and data octets
+pub record Block : Type 0 where
+  pub code : ℕ
+  pub octets : List ℕ
+
+abbrev pub zerosIn : Meaning → ℕ
+zerosIn (Counts n z) = z
+zerosIn NotAgreed = 0
+zerosIn NoCode = 0
+
+-- the zeros after its data octets
+abbrev pub zerosAfter : Block → ℕ
+zerosAfter b = zerosIn (codeTable (b .code))
+
+-- A block that the table allows: its code is agreed, as many data octets follow as it says, and none of them is zero.
+pub record Allowed (zxe : Bool) (b : Block) : Type 0 where
+  pub agreed : meaning zxe (b .code) ≡ Counts (length (b .octets)) (zerosAfter b)
+  pub nonzero : List·Memᴰ 0 (b .octets) → ⊥
+
+-- a list of such blocks
+abbrev pub AllAllowed : Bool → List Block → Type 0
+AllAllowed zxe bs = (b : Block) → List·Memᴰ b bs → Allowed zxe b
+
+-- what blocks stand for in D: their data octets, each with its zeros after them
+unfoldable pub decoded : List Block → List ℕ
+decoded = flatMap (λ b. b .octets ++ replicate (zerosAfter b) 0)
+
+-- the octets of blocks on the line
+unfoldable pub onLine : List Block → List ℕ
+onLine = flatMap (λ b. map toLine (b .code ∷ b .octets))
+
+-- ---- the blocks of a whole frame
+
+-- how much of D a choice covers, and the block it makes there
+abbrev pub covered : Choice → ℕ
+covered c = c .octets + c .zeros
+
+abbrev pub blockAt : List ℕ → Choice → Block
+blockAt rest c = record { code = c .code; octets = take (c .octets) rest }
+
+-- the blocks that the sender cuts a rest of D into, n at most
+unfoldable pub cut : Bool → ℕ → List ℕ → List Block
+cut zxe zero rest = []
+cut zxe (suc n) [] = []
+cut zxe (suc n) (x ∷ l) =
+    let rest = x ∷ l in
+    let c = choice zxe rest in
+    blockAt rest c ∷ cut zxe n (drop (covered c) rest)
+
+-- a block covers at least one octet of D, so it has as many at most
+unfoldable pub blocks : Bool → List ℕ → List Block
+blocks zxe d = cut zxe (length d) d
+
+-- what is sent of a frame that nothing interrupts, before its flag
+unfoldable pub sent : Bool → List ℕ → List ℕ
+sent zxe f = onLine (blocks zxe (withPhantom f))
+
+-- ---- reading blocks back
+
+-- The first block of a list, its code c and what the code means: `behind k` is what is read behind its k data octets.
+abbrev pub readBlock : ℕ → List ℕ → Meaning → (ℕ → Option (List Block)) → Option (List Block)
+readBlock c l (Counts k z) behind =
+    if leb k (length l) then Option·map (λ bs. record { code = c; octets = take k l } ∷ bs) (behind k) else none
+readBlock c l NotAgreed behind = none
+readBlock c l NoCode behind = none
+
+-- A code, as many data octets as it says, and so on to the end; none where a code is no code or not agreed, or a block breaks off.
+-- The octets are turned back already, and there are fewer than n blocks.
+unfoldable pub parse : Bool → ℕ → List ℕ → Option (List Block)
+parse zxe zero l = none
+parse zxe (suc n) [] = some []
+parse zxe (suc n) (c ∷ l) = readBlock c l (meaning zxe c) (λ k. parse zxe n (drop k l))
+
+-- the octets of a frame, without its flag, as blocks
+unfoldable pub readBlocks : Bool → List ℕ → Option (List Block)
+readBlocks zxe line = parse zxe (length line + 1) (map fromLine line)

@@ -1,0 +1,166 @@
+// Code blocks (document 01, "Code blocks"; the COBS draft, 3 to 3.3).
+ghost use mathlib.Core.Path.{_≡_};
+ghost use Rattle.cobs.specs.CodeBlocks.{withPhantom, meaning, toLine, fromLine, zeros, nonzeros, choice};
+
+// The octet that closes a frame.
+pub const FLAG: u8 = 0x7e;
+
+// What a code says: so many data octets follow, and so many zeros stand after them; or it needs ZXE, which is off; or it is no code.
+pub enum Meaning {
+    Counts { octets: u8, zeros: u8 },
+    NotAgreed,
+    NoCode,
+}
+
+// The block that a sender chooses: its code, how many data octets follow it, and how many zeros stand after them.
+pub struct Choice {
+    pub code: u8,
+    pub octets: u8,
+    pub zeros: u8,
+}
+
+// An octet as it is sent within a frame.
+pub fn to_line(octet: u8) -> u8
+    ensures { λ r. ⌜ r ≡ toLine octet ⌝ }
+{
+    if octet == FLAG {
+        return 0;
+    }
+    octet
+}
+
+// An octet from within a frame, turned back.
+pub fn from_line(octet: u8) -> u8
+    ensures { λ r. ⌜ r ≡ fromLine octet ⌝ }
+{
+    if octet == 0 {
+        return FLAG;
+    }
+    octet
+}
+
+// The code table, read under the setting ZXE.
+pub fn look_up(code: u8, zxe: bool) -> Meaning
+    ensures { λ r. ⌜ r ≡ meaning zxe code ⌝ }
+{
+    if code == 0 {
+        return Meaning::NoCode;
+    }
+    if code <= 0xcf {
+        return Meaning::Counts {
+            octets: code - 1,
+            zeros: 1,
+        };
+    }
+    if code == 0xd0 {
+        return Meaning::Counts {
+            octets: 207,
+            zeros: 0,
+        };
+    }
+    if code <= 0xd2 {
+        return Meaning::NoCode;
+    }
+    if code == 0xff {
+        return Meaning::NoCode;
+    }
+    if !zxe {
+        return Meaning::NotAgreed;
+    }
+    if code <= 0xdf {
+        return Meaning::Counts {
+            octets: 0,
+            zeros: code - 0xd0,
+        };
+    }
+    Meaning::Counts {
+        octets: code - 0xe0,
+        zeros: 2,
+    }
+}
+
+// Below, rest is what is left of a frame. The rest of D is that and the phantom, which is not stored: it stands at the slice's end.
+
+// The count of non-zero octets before the first zero, stopped at 207.
+fn count_nonzeros(rest: &[u8]) -> u8
+    ensures { λ r. ⌜ r ≡ nonzeros 207 (withPhantom (now (rest .entry))) ⌝ }
+{
+    let mut i = 0;
+    let k = loop {
+        if i == 207 {
+            break i;
+        }
+        if i == rest.len() {
+            break i;
+        }
+        if rest[i] == 0 {
+            break i;
+        }
+        i += 1;
+    };
+    k as u8
+}
+
+// The count of leading zeros, stopped at most.
+fn count_zeros(rest: &[u8], most: u8) -> u8
+    ensures { λ r. ⌜ r ≡ zeros most (withPhantom (now (rest .entry))) ⌝ }
+{
+    let mut i = 0;
+    let k = loop {
+        if i == most as usize {
+            break i;
+        }
+        if i == rest.len() {
+            break i + 1;
+        }
+        if rest[i] != 0 {
+            break i;
+        }
+        i += 1;
+    };
+    k as u8
+}
+
+// The sender's choice.
+pub fn choose(rest: &[u8], zxe: bool) -> Choice
+    ensures { λ r. ⌜ r ≡ choice zxe (withPhantom (now (rest .entry))) ⌝ }
+{
+    if zxe {
+        let run = count_zeros(rest, 15);
+        if 3 <= run {
+            let code = 0xd0 + run;
+            return Choice {
+                code,
+                octets: 0,
+                zeros: run,
+            };
+        }
+    }
+    let k = count_nonzeros(rest);
+    if k == 207 {
+        return Choice {
+            code: 0xd0,
+            octets: 207,
+            zeros: 0,
+        };
+    }
+    if zxe {
+        if k <= 30 {
+            let next = count_zeros(&rest[k as usize..], 2);
+            if next == 2 {
+                let code = 0xe0 + k;
+                return Choice {
+                    code,
+                    octets: k,
+                    zeros: 2,
+                };
+            }
+        }
+    }
+    let code = k + 1;
+    Choice {
+        code,
+        octets: k,
+        zeros: 1,
+    }
+}
