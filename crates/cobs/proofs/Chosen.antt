@@ -1,7 +1,7 @@
 -- What the sender's choice gives, at a rest of D.
 -- Assumes nothing.
 use mathlib.Core.Path.{_≡_, ap, sym, _∙_}
-use mathlib.Core.Bool.{Bool, true, not, _&&_}
+use mathlib.Core.Bool.{Bool, true, _&&_}
 use mathlib.Core.List.{List}
 use Prim.Native.Nat.{ℕ, _+_, _-_, _≤_, _<_}
 use native.Mathlib.Omega.{arith}
@@ -9,7 +9,7 @@ use borrow.Author.Tests.{leb-true, eqb-true, eqb-false}
 use lib.Dec.{leb, eqb}
 use lib.ListN.{length, drop, getD, length-drop}
 use lib.Seq.{getD-drop}
-use Rattle.cobs.specs.CodeBlocks.{Choice, withPhantom, zeros, nonzeros, choice}
+use Rattle.cobs.specs.CodeBlocks.{Choice, withPhantom, zeros, nonzeros, choice, isZero, nonZero}
 use Rattle.cobs.proofs.Tests.{branch, and-left, and-right}
 use Rattle.cobs.proofs.Leading.{EndsInZero, at-most, within, zeros-at, nonzeros-at, nonzeros-end, nonzeros-inside}
 use Rattle.cobs.proofs.Phantom.{long, ends, ends-drop}
@@ -17,7 +17,7 @@ use Rattle.cobs.proofs.Table.{Row, plain-row, full-row, run-row, pair-r
 
 -- A block that fits a rest of D: its code is agreed, its data octets stand next and none is zero, then its zeros stand.
 -- The data octets are not all of the rest, since the phantom is none of them.
-pub record Fits (zxe : Bool) (rest : List ℕ) (c : Choice) : Type 0 where
+pub record Stands (zxe : Bool) (rest : List ℕ) (c : Choice) : Type 0 where
   pub row : Row zxe (c .code) (c .octets) (c .zeros)
   pub nonzero : (i : ℕ) → i < c .octets → getD rest i 0 ≡ 0 → ⊥
   pub zero : (i : ℕ) → c .octets ≤ i → i < c .octets + c .zeros → getD rest i 0 ≡ 0
@@ -25,24 +25,24 @@ pub record Fits (zxe : Bool) (rest : List ℕ) (c : Choice) : Type 0 where
   pub more : c .octets < length rest
 
 module _ (zxe : Bool) (rest : List ℕ) (some : 0 < length rest) (end : EndsInZero rest) where
-  pub chosen : Fits zxe rest (choice zxe rest)
+  pub chosen : Stands zxe rest (choice zxe rest)
   unfolding choice
   chosen =
       let z = zeros 15 rest in
       let k = nonzeros 207 rest in
       let y = zeros 2 (drop k rest) in
       let kin : k < length rest = nonzeros-inside 207 rest some end in
-      let kmost : k ≤ 207 = at-most (λ x. not (eqb x 0)) 207 rest in
-      branch (Fits zxe rest) (zxe && leb 3 z)
+      let kmost : k ≤ 207 = at-most nonZero 207 rest in
+      branch (Stands zxe rest) (zxe && leb 3 z)
       (λ e.
       record {
-        row = run-row z (and-left zxe (leb 3 z) e) (leb-true 3 z (and-right zxe (leb 3 z) e)) (at-most (λ x. eqb x 0) 15 rest);
+        row = run-row z (and-left zxe (leb 3 z) e) (leb-true 3 z (and-right zxe (leb 3 z) e)) (at-most isZero 15 rest);
         nonzero = λ i h. absurd (omega arith);
         zero = λ i h l. zeros-at 15 rest i (omega arith);
-        inside = omega (arith, within (λ x. eqb x 0) 15 rest);
+        inside = omega (arith, within isZero 15 rest);
         more = some;
       })
-      (λ _. branch (Fits zxe rest) (eqb k 207)
+      (λ _. branch (Stands zxe rest) (eqb k 207)
       (λ e.
       let k·is : k ≡ 207 = eqb-true k 207 e in
       record {
@@ -54,7 +54,7 @@ module _ (zxe : Bool) (rest : List ℕ) (some : 0 < length rest) (end : EndsInZe
       })
       (λ e.
       let less : k < 207 = (let n : k ≡ 207 → ⊥ = eqb-false k 207 e in omega arith) in
-      branch (Fits zxe rest) (zxe && leb k 30 && eqb y 2)
+      branch (Stands zxe rest) (zxe && leb k 30 && eqb y 2)
       (λ t.
       let both : (zxe && leb k 30) ≡ true = and-left (zxe && leb k 30) (eqb y 2) t in
       let two : y ≡ 2 = eqb-true y 2 (and-right (zxe && leb k 30) (eqb y 2) t) in
@@ -62,7 +62,7 @@ module _ (zxe : Bool) (rest : List ℕ) (some : 0 < length rest) (end : EndsInZe
         row = pair-row k (and-left zxe (leb k 30) both) (leb-true k 30 (and-right zxe (leb k 30) both));
         nonzero = nonzeros-at 207 rest;
         zero = λ i h l. ap (λ (j : ℕ). getD rest j 0) (omega arith) ∙ (sym (getD-drop k rest (i - k) 0) ∙ zeros-at 2 (drop k rest) (i - k) (omega arith));
-        inside = omega (arith, within (λ x. eqb x 0) 2 (drop k rest), length-drop k rest);
+        inside = omega (arith, within isZero 2 (drop k rest), length-drop k rest);
         more = kin;
       })
       (λ _.
@@ -76,6 +76,6 @@ module _ (zxe : Bool) (rest : List ℕ) (some : 0 < length rest) (end : EndsInZe
 
 -- at a position of a frame's D
 pub chosen-at : (zxe : Bool) (f : List ℕ) (pos : ℕ) → pos ≤ length f
-    → Fits zxe (drop pos (withPhantom f)) (choice zxe (drop pos (withPhantom f)))
+    → Stands zxe (drop pos (withPhantom f)) (choice zxe (drop pos (withPhantom f)))
 chosen-at zxe f pos h =
     chosen zxe (drop pos (withPhantom f)) (omega (arith, length-drop pos (withPhantom f), long f)) (ends-drop (withPhantom f) (ends f) pos)

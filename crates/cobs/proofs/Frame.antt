@@ -16,7 +16,7 @@ use Rattle.cobs.proofs.Tests.{decide}
 use Rattle.cobs.proofs.Leading.{EndsInZero}
 use Rattle.cobs.proofs.Phantom.{long, ends, ends-drop}
 use Rattle.cobs.proofs.Table.{row-read, agreed-table, numbers}
-use Rattle.cobs.proofs.Chosen.{Fits, chosen}
+use Rattle.cobs.proofs.Chosen.{Stands, chosen}
 use Rattle.cobs.proofs.Blocks.{decoded-nil, decoded-cons, on-line-nil, line-length, line-flagless, reads-back}
 
 -- At most so many octets are sent of r octets of D, before the flag.
@@ -33,7 +33,7 @@ no-zero (x ∷ l) h m = ⊎-elim (λ e. h 0 (omega arith) (sym e)) (no-zero l (�
 
 -- ---- a block that fits
 
-module _ (zxe : Bool) (rest : List ℕ) (c : Choice) (f : Fits zxe rest c) where
+module _ (zxe : Bool) (rest : List ℕ) (c : Choice) (f : Stands zxe rest c) where
   data-long : length (take (c .octets) rest) ≡ c .octets
   data-long = length-take-le (c .octets) rest (omega (arith, f .inside))
 
@@ -84,7 +84,7 @@ module _ (zxe : Bool) where
 
   module _
       (P : List ℕ → List Block → Type 0) (none : P [] [])
-      (next : (rest : List ℕ) (bs : List Block) → Fits zxe rest (choice zxe rest) → P (drop (covered (choice zxe rest)) rest) bs
+      (next : (rest : List ℕ) (bs : List Block) → Stands zxe rest (choice zxe rest) → P (drop (covered (choice zxe rest)) rest) bs
       → P rest (blockAt rest (choice zxe rest) ∷ bs))
     where
       by-cut : (n : ℕ) (d : List ℕ) → EndsInZero d → length d ≤ n → P d (cut zxe n d)
@@ -109,7 +109,7 @@ module _ (zxe : Bool) where
   unfolding blocks
   cut-same n d e h = sym (by-cut (λ l bs. (m : ℕ) → length l ≤ m → bs ≡ cut zxe m l) (λ m k. sym (cut-none m)) next (length d) d e (omega arith) n h)
     where
-      next : (rest : List ℕ) (bs : List Block) → Fits zxe rest (choice zxe rest)
+      next : (rest : List ℕ) (bs : List Block) → Stands zxe rest (choice zxe rest)
           → ((m : ℕ) → length (drop (covered (choice zxe rest)) rest) ≤ m → bs ≡ cut zxe m (drop (covered (choice zxe rest)) rest))
           → (m : ℕ) → length rest ≤ m → blockAt rest (choice zxe rest) ∷ bs ≡ cut zxe m rest
       next rest bs f ih zero k = absurd (omega (arith, f .more))

@@ -1,16 +1,16 @@
 -- The count of leading octets that pass a test: what it counts, where it stops, and the turns of a loop that counts.
 -- Assumes nothing.
 use mathlib.Core.Path.{_≡_, refl}
-use mathlib.Core.Bool.{Bool, true, false, not}
+use mathlib.Core.Bool.{Bool, true, false}
 use mathlib.Core.List.{List, [], _∷_}
 use Prim.Native.Nat.{ℕ, zero, suc, _+_, _-_, _≤_, _<_}
 use native.Mathlib.Numerals.{add-one}
 use native.Mathlib.Omega.{arith}
 use borrow.Author.Tests.{eqb-true, eqb-false, ltb-true, ltb-false, not-true, not-false}
-use lib.Dec.{ltb, eqb}
+use lib.Dec.{ltb}
 use lib.ListN.{length, drop, getD}
 use lib.Seq.{drop-cons}
-use Rattle.cobs.specs.CodeBlocks.{leading, zeros, nonzeros}
+use Rattle.cobs.specs.CodeBlocks.{leading, zeros, nonzeros, isZero, nonZero}
 use Rattle.cobs.proofs.Tests.{branch, decide}
 
 module _ (test : ℕ → Bool) where
@@ -62,13 +62,13 @@ module _ (test : ℕ → Bool) where
 -- ---- the two counts
 
 pub zeros-at : (n : ℕ) (l : List ℕ) (i : ℕ) → i < zeros n l → getD l i 0 ≡ 0
-zeros-at n l i h = eqb-true (getD l i 0) 0 (passes (λ x. eqb x 0) n l i h)
+zeros-at n l i h = eqb-true (getD l i 0) 0 (passes isZero n l i h)
 
 pub nonzeros-at : (n : ℕ) (l : List ℕ) (i : ℕ) → i < nonzeros n l → getD l i 0 ≡ 0 → ⊥
-nonzeros-at n l i h = eqb-false (getD l i 0) 0 (not-true _ (passes (λ x. not (eqb x 0)) n l i h))
+nonzeros-at n l i h = eqb-false (getD l i 0) 0 (not-true _ (passes nonZero n l i h))
 
 pub nonzeros-end : (n : ℕ) (l : List ℕ) → nonzeros n l < n → nonzeros n l < length l → getD l (nonzeros n l) 0 ≡ 0
-nonzeros-end n l h k = eqb-true (getD l (nonzeros n l) 0) 0 (not-false _ (stops (λ x. not (eqb x 0)) n l h k))
+nonzeros-end n l h k = eqb-true (getD l (nonzeros n l) 0) 0 (not-false _ (stops nonZero n l h k))
 
 -- a list whose last octet is zero, as D and its rests are; or empty
 abbrev pub EndsInZero : List ℕ → Type 0

@@ -1,15 +1,15 @@
 -- D of a frame, octet by octet, and the two counts at a place of it.
 -- Assumes nothing.
-use mathlib.Core.Path.{_≡_, refl, ap, _∙_}
+use mathlib.Core.Path.{_≡_, ap, _∙_}
 use mathlib.Core.Bool.{not}
 use mathlib.Core.List.{List, [], _∷_}
 use Prim.Native.Nat.{ℕ, _+_, _-_, _≤_, _<_}
 use native.Mathlib.Omega.{arith}
 use borrow.Author.Tests.{eq-eqb, ne-eqb, ltb-true, ltb-false}
-use lib.Dec.{ltb, eqb}
+use lib.Dec.{ltb}
 use lib.ListN.{length, take, drop, getD, length-append, length-drop, drop-of-length-le, List·getD-append, List·getD-eq-default}
 use lib.Seq.{take-all, drop-append-le, getD-append-seam, getD-drop}
-use Rattle.cobs.specs.CodeBlocks.{withPhantom, zeros, nonzeros}
+use Rattle.cobs.specs.CodeBlocks.{withPhantom, zeros, nonzeros, isZero, nonZero}
 use Rattle.cobs.proofs.Tests.{decide}
 use Rattle.cobs.proofs.Leading.{EndsInZero, within, turn, fails, nonzeros-inside}
 
@@ -44,27 +44,27 @@ module _ (f : List ℕ) where
     pub nonzero-turn : (m : ℕ) → n ≡ m + 1 → i < length f → (getD f i 0 ≡ 0 → ⊥)
         → nonzeros n (drop i (withPhantom f)) ≡ nonzeros m (drop (i + 1) (withPhantom f)) + 1
     nonzero-turn m e h o =
-        turn (λ x. not (eqb x 0)) n m (withPhantom f) i (omega (arith, long)) e (ap not (ap (λ x. eqb x 0) (before i h) ∙ ne-eqb (getD f i 0) 0 o))
+        turn nonZero n m (withPhantom f) i (omega (arith, long)) e (ap not (ap isZero (before i h) ∙ ne-eqb (getD f i 0) 0 o))
 
     pub nonzero-stop : i < length f → getD f i 0 ≡ 0 → nonzeros n (drop i (withPhantom f)) ≡ 0
-    nonzero-stop h o = fails (λ x. not (eqb x 0)) n (withPhantom f) i (omega (arith, long)) (ap not (eq-eqb _ 0 (before i h ∙ o)))
+    nonzero-stop h o = fails nonZero n (withPhantom f) i (omega (arith, long)) (ap not (eq-eqb _ 0 (before i h ∙ o)))
 
     pub nonzero-phantom : i ≡ length f → nonzeros n (drop i (withPhantom f)) ≡ 0
-    nonzero-phantom e = fails (λ x. not (eqb x 0)) n (withPhantom f) i (omega (arith, long)) (ap not (eq-eqb _ 0 (behind i e)))
+    nonzero-phantom e = fails nonZero n (withPhantom f) i (omega (arith, long)) (ap not (eq-eqb _ 0 (behind i e)))
 
     -- a zero counts one, and so does the phantom, behind which is nothing; at another octet nothing is counted
     pub zero-turn : (m : ℕ) → n ≡ m + 1 → i < length f → getD f i 0 ≡ 0
         → zeros n (drop i (withPhantom f)) ≡ zeros m (drop (i + 1) (withPhantom f)) + 1
-    zero-turn m e h o = turn (λ x. eqb x 0) n m (withPhantom f) i (omega (arith, long)) e (eq-eqb _ 0 (before i h ∙ o))
+    zero-turn m e h o = turn isZero n m (withPhantom f) i (omega (arith, long)) e (eq-eqb _ 0 (before i h ∙ o))
 
     pub zero-phantom : 0 < n → i ≡ length f → zeros n (drop i (withPhantom f)) ≡ 1
     zero-phantom h e =
-        let w : zeros (n - 1) (drop (i + 1) (withPhantom f)) ≤ length (drop (i + 1) (withPhantom f)) = within (λ x. eqb x 0) (n - 1) (drop (i + 1) (withPhantom f)) in
+        let w : zeros (n - 1) (drop (i + 1) (withPhantom f)) ≤ length (drop (i + 1) (withPhantom f)) = within isZero (n - 1) (drop (i + 1) (withPhantom f)) in
         let end : length (drop (i + 1) (withPhantom f)) ≡ 0 = ap length (drop-of-length-le (withPhantom f) {i = i + 1} (omega (arith, long))) in
-        omega (arith, turn (λ x. eqb x 0) n (n - 1) (withPhantom f) i (omega (arith, long)) (omega arith) (eq-eqb _ 0 (behind i e)))
+        omega (arith, turn isZero n (n - 1) (withPhantom f) i (omega (arith, long)) (omega arith) (eq-eqb _ 0 (behind i e)))
 
     pub zero-stop : i < length f → (getD f i 0 ≡ 0 → ⊥) → zeros n (drop i (withPhantom f)) ≡ 0
-    zero-stop h o = fails (λ x. eqb x 0) n (withPhantom f) i (omega (arith, long)) (ap (λ x. eqb x 0) (before i h) ∙ ne-eqb (getD f i 0) 0 o)
+    zero-stop h o = fails isZero n (withPhantom f) i (omega (arith, long)) (ap isZero (before i h) ∙ ne-eqb (getD f i 0) 0 o)
 
   pub nonzeros-within : (n : ℕ) → nonzeros n (withPhantom f) ≤ length f
   nonzeros-within n = omega (arith, long, nonzeros-inside n (withPhantom f) (omega (arith, long)) ends)

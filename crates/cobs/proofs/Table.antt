@@ -10,44 +10,83 @@ use lib.Dec.{leb, eqb}
 use Rattle.cobs.specs.CodeBlocks.{Meaning, Counts, NotAgreed, NoCode, within, codeTable, meaning}
 use Rattle.cobs.proofs.Tests.{branch, and-left, and-right}
 
+-- a code and a range of codes
+module _ (first last c : ℕ) where
+  below : c < first → within first last c ≡ false
+  unfolding within
+  below h = rw (lt-leb first c h)
+
+  past : first ≤ c → last < c → within first last c ≡ false
+  unfolding within
+  past h k = rw (le-leb first c h, lt-leb c last k)
+
+  inside : first ≤ c → c ≤ last → within first last c ≡ true
+  unfolding within
+  inside h k = rw (le-leb first c h, le-leb c last k)
+
+  between : within first last c ≡ true → (first ≤ c) × (c ≤ last)
+  unfolding within
+  between e = (leb-true first c (and-left (leb first c) (leb c last) e), leb-true c last (and-right (leb first c) (leb c last) e))
+
 module _ (zxe : Bool) (c : ℕ) where
   -- 01-CF and D0, under either setting
   pub plain : 1 ≤ c → c ≤ 0xCF → meaning zxe c ≡ Counts (c - 1) 1
   unfolding meaning codeTable
-  plain h k = rw (lt-leb 0xD3 c (omega arith), le-leb 0x01 c h, le-leb c 0xCF k)
+  plain h k = rw (below 0xD3 0xFE c (omega arith), inside 0x01 0xCF c h k)
 
   pub full : c ≡ 0xD0 → meaning zxe c ≡ Counts 207 0
-  unfolding meaning codeTable
+  unfolding within meaning codeTable
   full e = rw e
 
   -- D3-DF and E0-FE, where ZXE allows them
   pub run : zxe ≡ true → 0xD3 ≤ c → c ≤ 0xDF → meaning zxe c ≡ Counts 0 (c - 0xD0)
   unfolding meaning codeTable
-  run on h k = rw (on, le-leb 0xD3 c h, le-leb c 0xFE (omega arith), le-leb 0x01 c (omega arith), lt-leb c 0xCF (omega arith), ne-eqb c 0xD0 (λ e. omega arith), le-leb c 0xDF k)
+  run on h k =
+      rw (on, inside 0xD3 0xFE c h (omega arith), past 0x01 0xCF c (omega arith) (omega arith), ne-eqb c 0xD0 (λ e. omega arith), inside 0xD3 0xDF c h k)
 
   pub pair : zxe ≡ true → 0xE0 ≤ c → c ≤ 0xFE → meaning zxe c ≡ Counts (c - 0xE0) 2
   unfolding meaning codeTable
-  pair on h k = rw (on, le-leb 0xD3 c (omega arith), le-leb c 0xFE k, le-leb 0x01 c (omega arith), lt-leb c 0xCF (omega arith), ne-eqb c 0xD0 (λ e. omega arith), lt-leb c 0xDF (omega arith), le-leb 0xE0 c h)
+  pair on h k =
+      rw (
+        on,
+        inside 0xD3 0xFE c (omega arith) k,
+        past 0x01 0xCF c (omega arith) (omega arith),
+        ne-eqb c 0xD0 (λ e. omega arith),
+        past 0xD3 0xDF c (omega arith) (omega arith),
+        inside 0xE0 0xFE c h k,
+      )
 
   -- without it they are not agreed
   pub not-agreed : zxe ≡ false → 0xD3 ≤ c → c ≤ 0xFE → meaning zxe c ≡ NotAgreed
   unfolding meaning
-  not-agreed off h k = rw (off, le-leb 0xD3 c h, le-leb c 0xFE k)
+  not-agreed off h k = rw (off, inside 0xD3 0xFE c h k)
 
   -- zero, D1 and D2, and FF are no codes
   pub unused : c ≡ 0 → meaning zxe c ≡ NoCode
-  unfolding meaning codeTable
+  unfolding within meaning codeTable
   unused e = rw e
 
   pub reserved : 0xD1 ≤ c → c ≤ 0xD2 → meaning zxe c ≡ NoCode
   unfolding meaning codeTable
   reserved h k =
-      rw (lt-leb 0xD3 c (omega arith), le-leb 0x01 c (omega arith), lt-leb c 0xCF (omega arith), ne-eqb c 0xD0 (λ e. omega arith), lt-leb 0xE0 c (omega arith))
+      rw (
+        below 0xD3 0xFE c (omega arith),
+        past 0x01 0xCF c (omega arith) (omega arith),
+        ne-eqb c 0xD0 (λ e. omega arith),
+        below 0xD3 0xDF c (omega arith),
+        below 0xE0 0xFE c (omega arith),
+      )
 
   pub above : 0xFF ≤ c → meaning zxe c ≡ NoCode
   unfolding meaning codeTable
   above h =
-      rw (le-leb 0xD3 c (omega arith), lt-leb c 0xFE h, le-leb 0x01 c (omega arith), lt-leb c 0xCF (omega arith), ne-eqb c 0xD0 (λ e. omega arith), lt-leb c 0xDF (omega arith), le-leb 0xE0 c (omega arith))
+      rw (
+        past 0xD3 0xFE c (omega arith) h,
+        past 0x01 0xCF c (omega arith) (omega arith),
+        ne-eqb c 0xD0 (λ e. omega arith),
+        past 0xD3 0xDF c (omega arith) (omega arith),
+        past 0xE0 0xFE c (omega arith) h,
+      )
 
 -- an agreed code is in the table as it is under the setting
 pub agreed-table : (zxe : Bool) (c n z : ℕ) → meaning zxe c ≡ Counts n z → codeTable c ≡ Counts n z
@@ -77,28 +116,21 @@ unfolding meaning codeTable
 read-row zxe c n z =
     branch Read (within 0xD3 0xFE c && not zxe) (λ e q. absurd (let w : _≡_ {A = ℕ} 0 1 = cc in omega arith))
     (λ off. branch Read (within 0x01 0xCF c)
-    (λ e q.
-    let h : 0x01 ≤ c = leb-true 0x01 c (and-left (leb 0x01 c) (leb c 0xCF) e) in
-    let k : c ≤ 0xCF = leb-true c 0xCF (and-right (leb 0x01 c) (leb c 0xCF) e) in
-    row-at (plain-row (c - 1) (omega arith)) (omega arith) (cc) (cc))
+    (λ e q. let r = between 0x01 0xCF c e in row-at (plain-row (c - 1) (omega arith)) (omega arith) (cc) (cc))
     (λ _. branch Read (eqb c 0xD0) (λ e q. row-at full-row (eqb-true c 0xD0 e) (cc) (cc))
     (λ _. branch Read (within 0xD3 0xDF c)
     (λ e q.
-    let h : 0xD3 ≤ c = leb-true 0xD3 c (and-left (leb 0xD3 c) (leb c 0xDF) e) in
-    let k : c ≤ 0xDF = leb-true c 0xDF (and-right (leb 0xD3 c) (leb c 0xDF) e) in
-    row-at (run-row (c - 0xD0) (on off h (omega arith)) (omega arith) (omega arith)) (omega arith) (cc) (cc))
+    let r = between 0xD3 0xDF c e in
+    row-at (run-row (c - 0xD0) (on off (omega arith) (omega arith)) (omega arith) (omega arith)) (omega arith) (cc) (cc))
     (λ _. branch Read (within 0xE0 0xFE c)
-    (λ e q.
-    let h : 0xE0 ≤ c = leb-true 0xE0 c (and-left (leb 0xE0 c) (leb c 0xFE) e) in
-    let k : c ≤ 0xFE = leb-true c 0xFE (and-right (leb 0xE0 c) (leb c 0xFE) e) in
-    row-at (pair-row (c - 0xE0) (on off (omega arith) k) (omega arith)) (omega arith) (cc) (cc))
+    (λ e q. let r = between 0xE0 0xFE c e in row-at (pair-row (c - 0xE0) (on off (omega arith) (omega arith)) (omega arith)) (omega arith) (cc) (cc))
     (λ _ q. absurd (let w : _≡_ {A = ℕ} 0 1 = cc in omega arith))))))
   where
     Read : Meaning → Type 0
     Read m = m ≡ Counts n z → Row zxe c n z
 
     on : (within 0xD3 0xFE c && not zxe) ≡ false → 0xD3 ≤ c → c ≤ 0xFE → zxe ≡ true
-    on off h k = not-false zxe (rw (le-leb 0xD3 c h, le-leb c 0xFE k) at off)
+    on off h k = not-false zxe (rw (inside 0xD3 0xFE c h k) at off)
 
 -- what follows of the three numbers
 pub record Numbers (c n z : ℕ) : Type 0 where

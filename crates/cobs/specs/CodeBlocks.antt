@@ -25,7 +25,8 @@ withPhantom f = f ++ (0 ∷ [])
 
 -- ---- the code table
 
-abbrev pub within : ℕ → ℕ → ℕ → Bool
+-- first-last, as a range of codes is written
+unfoldable pub within : ℕ → ℕ → ℕ → Bool
 within first last c = leb first c && leb c last
 
 -- How many data octets follow a code, and how many zeros stand after them. D1, D2, FF and zero are no codes.
@@ -62,11 +63,17 @@ leading test zero l = 0
 leading test (suc n) [] = 0
 leading test (suc n) (x ∷ l) = if test x then suc (leading test n l) else 0
 
+abbrev pub isZero : ℕ → Bool
+isZero x = eqb x 0
+
+abbrev pub nonZero : ℕ → Bool
+nonZero x = not (eqb x 0)
+
 abbrev pub zeros : ℕ → List ℕ → ℕ
-zeros = leading (λ x. eqb x 0)
+zeros = leading isZero
 
 abbrev pub nonzeros : ℕ → List ℕ → ℕ
-nonzeros = leading (λ x. not (eqb x 0))
+nonzeros = leading nonZero
 
 -- at a rest of D: the code of the next block, its data octets and its zeros
 unfoldable pub choice : Bool → List ℕ → Choice

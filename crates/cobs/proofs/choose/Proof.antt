@@ -1,15 +1,15 @@
 -- `cobs::choose` meets its contract. Where the ways meet, the test that none of them passed is false.
 -- Assumes nothing.
 use mathlib.Core.Path.{_≡_, sym, ap, _∙_}
-use mathlib.Core.Bool.{false, not, _&&_}
+use mathlib.Core.Bool.{false, _&&_}
 use mathlib.Core.Logic.{⊎-elim}
-use Prim.Native.Nat.{_≤_}
+use Prim.Native.Nat.{_-_, _≤_}
 use native.Mathlib.Omega.{arith}
 use borrow.Author.Needs.{needs}
 use borrow.Author.Tests.{eq-eqb, ne-eqb, le-leb, lt-leb}
 use lib.Dec.{leb, eqb}
-use lib.ListN.{length, drop}
-use Rattle.cobs.specs.CodeBlocks.{withPhantom, zeros, nonzeros, choice}
+use lib.ListN.{length, take, drop}
+use Rattle.cobs.specs.CodeBlocks.{withPhantom, zeros, choice, isZero, nonZero}
 use Rattle.cobs.proofs.Leading.{at-most}
 use Rattle.cobs.proofs.Phantom.{nonzeros-within, rest-of}
 use Rattle.cobs.proofs.choose.Statement.{statement}
@@ -21,7 +21,7 @@ count-zeros-requires c κs = search needs
 add-code : tie.Need-add-code
 add-code c =
     let z = c .before .count-zeros in
-    record { fits = omega (arith, z .ensures, at-most (λ x. eqb x 0) 15 (withPhantom (c .before .before .before .before .args .rest .now))) }
+    record { fits = omega (arith, z .ensures, at-most isZero 15 (withPhantom (c .before .before .before .before .args .rest .now))) }
 
 returns : tie.Need-returns
 unfolding choice
@@ -59,13 +59,12 @@ count-zeros-requires-2 c κs = search needs
 add-code-2 : tie.Need-add-code-2
 add-code-2 c = search needs
 
--- what is counted behind those k octets
-next : (c : tie.After-count-zeros2)
-    → c .count-zeros2 .result
-    ≡ (let n = c .before .before .before .before in zeros 2 (drop (n .before .count-nonzeros .result) (withPhantom (n .before .before .before .before .args .rest .now))))
-next c =
-    let n = c .before .before .before .before .before in
-    c .count-zeros2 .ensures ∙ ap (zeros 2) (sym (rest-of (n .before .before .before .args .rest .now) (n .count-nonzeros .result) (inside n)))
+-- the part of the frame behind them, with the phantom, is the rest of D there
+behind : (c : tie.After-count-nonzeros)
+    → (let rest = c .before .before .before .args .rest .now in
+    let k = c .count-nonzeros .result in
+    zeros 2 (withPhantom (take (length rest - k) (drop k rest))) ≡ zeros 2 (drop k (withPhantom rest)))
+behind c = ap (zeros 2) (sym (rest-of (c .before .before .before .args .rest .now) (c .count-nonzeros .result) (inside c)))
 
 returns-3 : tie.Need-returns-3
 unfolding choice
@@ -79,7 +78,7 @@ returns-3 c =
       sym (e .before .count-nonzeros .ensures),
       ne-eqb _ _ (e .if3 .left),
       le-leb _ _ (p .if5 .taken),
-      sym (next (c .before)),
+      sym (c .before .count-zeros2 .ensures ∙ behind (e .before)),
       eq-eqb _ _ (c .if6 .taken),
     )
 
@@ -88,12 +87,14 @@ no-pair : (c : tie.Joined4)
     let k = c .before .before .count-nonzeros .result in
     (a .zxe && leb k 30 && eqb (zeros 2 (drop k (withPhantom (a .rest .now)))) 2) ≡ false)
 no-pair c =
-    let n = c .before .before in
-    ⊎-elim (λ w. rw (w .0 .taken, le-leb _ _ (w .1 .taken), ← (next (record { before = record { before = record { before = record { before = c .before; if4 = w .0 }; if5 = w .1 }; count-zeros-arg = w .2 }; count-zeros2 = w .3 }))) (ne-eqb _ _ (w .4 .left)))
-    (⊎-elim (λ w. rw (w .0 .taken, lt-leb _ _ (w .1 .left))) (λ w. rw (w .left))) (c .if4 .came)
+    ⊎-elim (λ w. rw (w .0 .taken, le-leb _ _ (w .1 .taken), ← (w .3 .ensures ∙ behind (c .before .before))) (ne-eqb _ _ (w .4 .left)))
+    (⊎-elim (λ w. rw (w .0 .taken, lt-leb _ _ (w .1 .left))) (λ w. rw (w .left)))
+    (c .if4 .came)
 
 add-code-3 : tie.Need-add-code-3
-add-code-3 c = record { fits = omega (arith, inside (c .before .before), c .before .before .count-nonzeros .ensures, at-most (λ x. not (eqb x 0)) 207 (withPhantom (c .before .before .before .before .before .args .rest .now))) }
+add-code-3 c =
+    let n = c .before .before in
+    record { fits = omega (arith, n .count-nonzeros .ensures, at-most nonZero 207 (withPhantom (n .before .before .before .args .rest .now))) }
 
 returns-4 : tie.Need-returns-4
 unfolding choice

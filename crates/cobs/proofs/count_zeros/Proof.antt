@@ -5,9 +5,8 @@ use mathlib.Core.Logic.{⊎-elim}
 use Prim.Native.Nat.{_+_, _-_, _≤_}
 use native.Mathlib.Nat.{zero-add, sub-zero}
 use native.Mathlib.Omega.{arith}
-use lib.Dec.{eqb}
 use lib.ListN.{length, drop}
-use Rattle.cobs.specs.CodeBlocks.{withPhantom, zeros}
+use Rattle.cobs.specs.CodeBlocks.{withPhantom, zeros, isZero}
 use Rattle.cobs.proofs.Leading.{at-most, limit}
 use Rattle.cobs.proofs.Phantom.{zero-turn, zero-stop, zero-phantom}
 use Rattle.cobs.proofs.count_zeros.Statement.{statement}
@@ -48,7 +47,7 @@ counted c =
     let rest = c .before .before .args .rest .now in
     let most = c .before .before .args .most in
     let i = c .before .loop .i in
-    ⊎-elim (λ w. omega (arith, w .1, limit (λ x. eqb x 0) (most - i) (drop i (withPhantom rest)) (omega (arith, w .0 .taken))))
+    ⊎-elim (λ w. omega (arith, w .1, limit isZero (most - i) (drop i (withPhantom rest)) (omega (arith, w .0 .taken))))
     (⊎-elim (λ w. omega (arith, w .2, zero-phantom rest (most - i) i (omega (arith, w .0 .left)) (w .1 .taken)))
     (λ w. omega (arith, w .4, zero-stop rest (most - i) i (omega (arith, w .1 .left)) (w .3 .taken))))
     (c .if1 .came)
@@ -56,7 +55,7 @@ counted c =
 cast-result : tie.Need-cast-result Inv-loop μ-loop
 cast-result c =
     let a = c .before .before .before in
-    record { fits = omega (arith, counted (c .before), at-most (λ x. eqb x 0) (a .args .most) (withPhantom (a .args .rest .now)), a .fits .most .fits) }
+    record { fits = omega (arith, counted (c .before), at-most isZero (a .args .most) (withPhantom (a .args .rest .now)), a .fits .most .fits) }
 
 returns : tie.Need-returns Inv-loop μ-loop
 returns c = counted (c .before)
