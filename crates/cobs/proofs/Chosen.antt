@@ -54,12 +54,14 @@ module _ (zxe : Bool) (rest : List ℕ) (some : 0 < length rest) (end : EndsInZe
       })
       (λ e.
       let less : k < 207 = (let n : k ≡ 207 → ⊥ = eqb-false k 207 e in omega arith) in
-      branch (Stands zxe rest) (zxe && leb k 30 && eqb y 2)
+      let few = leb k 30 in
+      let pair = eqb y 2 in
+      branch (Stands zxe rest) (zxe && few && pair)
       (λ t.
-      let both : (zxe && leb k 30) ≡ true = and-left (zxe && leb k 30) (eqb y 2) t in
-      let two : y ≡ 2 = eqb-true y 2 (and-right (zxe && leb k 30) (eqb y 2) t) in
+      let on·few : (zxe && few) ≡ true = and-left (zxe && few) pair t in
+      let two : y ≡ 2 = eqb-true y 2 (and-right (zxe && few) pair t) in
       record {
-        row = pair-row k (and-left zxe (leb k 30) both) (leb-true k 30 (and-right zxe (leb k 30) both));
+        row = pair-row k (and-left zxe few on·few) (leb-true k 30 (and-right zxe few on·few));
         nonzero = nonzeros-at 207 rest;
         zero = λ i h l. ap (λ (j : ℕ). getD rest j 0) (omega arith) ∙ (sym (getD-drop k rest (i - k) 0) ∙ zeros-at 2 (drop k rest) (i - k) (omega arith));
         inside = omega (arith, within isZero 2 (drop k rest), length-drop k rest);

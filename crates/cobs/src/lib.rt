@@ -144,17 +144,15 @@ pub fn choose(rest: &[u8], zxe: bool) -> Choice
             zeros: 0,
         };
     }
-    if zxe {
-        if k <= 30 {
-            let next = count_zeros(&rest[k as usize..], 2);
-            if next == 2 {
-                let code = 0xe0 + k;
-                return Choice {
-                    code,
-                    octets: k,
-                    zeros: 2,
-                };
-            }
+    if zxe & (k <= 30) {
+        let next = count_zeros(&rest[k as usize..], 2);
+        if next == 2 {
+            let code = 0xe0 + k;
+            return Choice {
+                code,
+                octets: k,
+                zeros: 2,
+            };
         }
     }
     let code = k + 1;

@@ -1,15 +1,16 @@
 -- `cobs::choose` meets its contract. Where the ways meet, the test that none of them passed is false.
 -- Assumes nothing.
 use mathlib.Core.Path.{_≡_, sym, ap, _∙_}
-use mathlib.Core.Bool.{false, _&&_}
+use mathlib.Core.Bool.{true, false, _&&_}
 use mathlib.Core.Logic.{⊎-elim}
 use Prim.Native.Nat.{_-_, _≤_}
 use native.Mathlib.Omega.{arith}
 use borrow.Author.Needs.{needs}
-use borrow.Author.Tests.{eq-eqb, ne-eqb, le-leb, lt-leb}
+use borrow.Author.Tests.{leb-true, eq-eqb, ne-eqb, le-leb, lt-leb}
 use lib.Dec.{leb, eqb}
 use lib.ListN.{length, take, drop}
 use Rattle.cobs.specs.CodeBlocks.{withPhantom, zeros, choice, isZero, nonZero}
+use Rattle.cobs.proofs.Tests.{and-left, and-right}
 use Rattle.cobs.proofs.Leading.{at-most}
 use Rattle.cobs.proofs.Phantom.{nonzeros-within, rest-of}
 use Rattle.cobs.proofs.choose.Statement.{statement}
@@ -45,10 +46,10 @@ inside : (c : tie.After-count-nonzeros) → c .count-nonzeros .result ≤ length
 inside c = omega (arith, c .count-nonzeros .ensures, nonzeros-within (c .before .before .before .args .rest .now) 207)
 
 sub-count-zeros : tie.Need-sub-count-zeros
-sub-count-zeros c = inside (c .before .before .before)
+sub-count-zeros c = inside (c .before .before)
 
 part-count-zeros-start : tie.Need-part-count-zeros-start
-part-count-zeros-start c = inside (c .before .before .before)
+part-count-zeros-start c = inside (c .before .before)
 
 part-count-zeros-end : tie.Need-part-count-zeros-end
 part-count-zeros-end c = search needs
@@ -56,8 +57,17 @@ part-count-zeros-end c = search needs
 count-zeros-requires-2 : tie.Need-count-zeros-requires-2
 count-zeros-requires-2 c κs = search needs
 
+-- with ZXE on, and k at most 30
+on : (c : tie.Then4) → c .before .before .before .before .before .args .zxe ≡ true
+on c = and-left (c .before .before .before .before .before .args .zxe) (leb (c .before .before .count-nonzeros .result) 30) (c .if4 .taken)
+
+few : (c : tie.Then4) → leb (c .before .before .count-nonzeros .result) 30 ≡ true
+few c = and-right (c .before .before .before .before .before .args .zxe) (leb (c .before .before .count-nonzeros .result) 30) (c .if4 .taken)
+
 add-code-2 : tie.Need-add-code-2
-add-code-2 c = search needs
+add-code-2 c =
+    let t = c .before .before .before in
+    record { fits = omega (arith, leb-true (t .before .before .count-nonzeros .result) 30 (few t)) }
 
 -- the part of the frame behind them, with the phantom, is the rest of D there
 behind : (c : tie.After-count-nonzeros)
@@ -69,17 +79,16 @@ behind c = ap (zeros 2) (sym (rest-of (c .before .before .before .args .rest .no
 returns-3 : tie.Need-returns-3
 unfolding choice
 returns-3 c =
-    let p = c .before .before .before in
-    let e = p .before .before in
-    let on = p .before .if4 .taken in
+    let t = c .before .before .before in
+    let e = t .before in
     simp (
-      on,
-      rw on at (no-run (e .before .before)),
+      on t,
+      rw (on t) at (no-run (e .before .before)),
       sym (e .before .count-nonzeros .ensures),
       ne-eqb _ _ (e .if3 .left),
-      le-leb _ _ (p .if5 .taken),
+      few t,
       sym (c .before .count-zeros2 .ensures ∙ behind (e .before)),
-      eq-eqb _ _ (c .if6 .taken),
+      eq-eqb _ _ (c .if5 .taken),
     )
 
 no-pair : (c : tie.Joined4)
@@ -87,9 +96,7 @@ no-pair : (c : tie.Joined4)
     let k = c .before .before .count-nonzeros .result in
     (a .zxe && leb k 30 && eqb (zeros 2 (drop k (withPhantom (a .rest .now)))) 2) ≡ false)
 no-pair c =
-    ⊎-elim (λ w. rw (w .0 .taken, le-leb _ _ (w .1 .taken), ← (w .3 .ensures ∙ behind (c .before .before))) (ne-eqb _ _ (w .4 .left)))
-    (⊎-elim (λ w. rw (w .0 .taken, lt-leb _ _ (w .1 .left))) (λ w. rw (w .left)))
-    (c .if4 .came)
+    ⊎-elim (λ w. rw (w .0 .taken, ← (w .2 .ensures ∙ behind (c .before .before))) (ne-eqb _ _ (w .3 .left))) (λ w. rw (w .left)) (c .if4 .came)
 
 add-code-3 : tie.Need-add-code-3
 add-code-3 c =

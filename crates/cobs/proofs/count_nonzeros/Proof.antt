@@ -22,6 +22,16 @@ abbrev μ-loop : tie.MeasureT-loop
 loop-holds : tie.Need-loop-holds Inv-loop μ-loop
 loop-holds c = (omega arith, omega arith, simp zero-add)
 
+-- at 207, at the phantom and at a zero, k is the count
+counted : (c : tie.Joined1 Inv-loop μ-loop) → c .if1 .k ≡ nonzeros 207 (withPhantom (c .before .before .args .rest .now))
+counted c =
+    let rest = c .before .before .args .rest .now in
+    let i = c .before .loop .i in
+    ⊎-elim (λ w. omega (arith, w .1, limit nonZero (207 - i) (drop i (withPhantom rest)) (omega (arith, w .0 .taken))))
+    (⊎-elim (λ w. omega (arith, w .2, nonzero-phantom rest (207 - i) i (w .1 .taken)))
+    (λ w. omega (arith, w .4, nonzero-stop rest (207 - i) i (omega (arith, w .1 .left)) (w .3 .taken))))
+    (c .if1 .came)
+
 shared-slice-read-if3 : tie.Need-shared-slice-read-if3 Inv-loop μ-loop
 shared-slice-read-if3 c = omega arith
 
@@ -39,16 +49,6 @@ loop-again c =
       omega arith,
       omega (arith, l .loop .inv .2, nonzero-turn (l .before .args .rest .now) (207 - i) i (207 - (i + 1)) (omega arith) (omega arith) (c .if3 .left)),
     )
-
--- at 207, at the phantom and at a zero, k is the count
-counted : (c : tie.Joined1 Inv-loop μ-loop) → c .if1 .k ≡ nonzeros 207 (withPhantom (c .before .before .args .rest .now))
-counted c =
-    let rest = c .before .before .args .rest .now in
-    let i = c .before .loop .i in
-    ⊎-elim (λ w. omega (arith, w .1, limit nonZero (207 - i) (drop i (withPhantom rest)) (omega (arith, w .0 .taken))))
-    (⊎-elim (λ w. omega (arith, w .2, nonzero-phantom rest (207 - i) i (w .1 .taken)))
-    (λ w. omega (arith, w .4, nonzero-stop rest (207 - i) i (omega (arith, w .1 .left)) (w .3 .taken))))
-    (c .if1 .came)
 
 cast-result : tie.Need-cast-result Inv-loop μ-loop
 cast-result c = record { fits = omega (arith, counted (c .before), at-most nonZero 207 (withPhantom (c .before .before .before .args .rest .now))) }

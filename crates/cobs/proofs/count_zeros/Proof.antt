@@ -22,6 +22,17 @@ abbrev μ-loop : tie.MeasureT-loop
 loop-holds : tie.Need-loop-holds Inv-loop μ-loop
 loop-holds c = (omega arith, omega arith, simp (zero-add, sub-zero))
 
+-- at the limit, at the phantom and at another octet, k is the count
+counted : (c : tie.Joined1 Inv-loop μ-loop) → c .if1 .k ≡ zeros (c .before .before .args .most) (withPhantom (c .before .before .args .rest .now))
+counted c =
+    let rest = c .before .before .args .rest .now in
+    let most = c .before .before .args .most in
+    let i = c .before .loop .i in
+    ⊎-elim (λ w. omega (arith, w .1, limit isZero (most - i) (drop i (withPhantom rest)) (omega (arith, w .0 .taken))))
+    (⊎-elim (λ w. omega (arith, w .2, zero-phantom rest (most - i) i (omega (arith, w .0 .left)) (w .1 .taken)))
+    (λ w. omega (arith, w .4, zero-stop rest (most - i) i (omega (arith, w .1 .left)) (w .3 .taken))))
+    (c .if1 .came)
+
 add-k : tie.Need-add-k Inv-loop μ-loop
 add-k c = omega arith
 
@@ -40,17 +51,6 @@ loop-again c =
     let i = l .loop .i in
     let a = l .before .args in
     (omega arith, omega arith, omega (arith, l .loop .inv .2, zero-turn (a .rest .now) (a .most - i) i (a .most - (i + 1)) (omega arith) (omega arith) (c .if3 .left)))
-
--- at the limit, at the phantom and at another octet, k is the count
-counted : (c : tie.Joined1 Inv-loop μ-loop) → c .if1 .k ≡ zeros (c .before .before .args .most) (withPhantom (c .before .before .args .rest .now))
-counted c =
-    let rest = c .before .before .args .rest .now in
-    let most = c .before .before .args .most in
-    let i = c .before .loop .i in
-    ⊎-elim (λ w. omega (arith, w .1, limit isZero (most - i) (drop i (withPhantom rest)) (omega (arith, w .0 .taken))))
-    (⊎-elim (λ w. omega (arith, w .2, zero-phantom rest (most - i) i (omega (arith, w .0 .left)) (w .1 .taken)))
-    (λ w. omega (arith, w .4, zero-stop rest (most - i) i (omega (arith, w .1 .left)) (w .3 .taken))))
-    (c .if1 .came)
 
 cast-result : tie.Need-cast-result Inv-loop μ-loop
 cast-result c =
