@@ -12,6 +12,11 @@ pub no-flag : (x : ℕ) → toLine x ≡ flag → ⊥
 unfolding toLine
 no-flag x = branch (λ y. y ≡ flag → ⊥) (eqb x flag) (λ e q. eqb-false 0 flag refl q) (λ e q. eqb-false x flag e q)
 
+-- what is turned back is never zero, so that zero is never read as a code
+pub never-zero : (x : ℕ) → fromLine x ≡ 0 → ⊥
+unfolding fromLine
+never-zero x = branch (λ y. y ≡ 0 → ⊥) (eqb x 0) (λ e q. eqb-false flag 0 refl q) (λ e q. eqb-false x 0 e q)
+
 -- an octet that is not zero
 module _ (x : ℕ) (some : x ≡ 0 → ⊥) where
   pub from-line : fromLine x ≡ x
