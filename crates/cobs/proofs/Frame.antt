@@ -152,7 +152,7 @@ module _ (zxe : Bool) (f : List ℕ) where
   pub frame-back : Option·map decoded (readBlocks zxe (sent zxe f)) ≡ some (withPhantom f)
   frame-back = rw (frame-reads, frame-decodes)
 
-  -- and is at most n + 1 + floor(n / 207) octets
+  -- and is no longer than this
   pub frame-length : length (sent zxe f) ≤ length f + 1 + length f / 207
   unfolding sent
   frame-length =

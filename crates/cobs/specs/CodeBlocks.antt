@@ -29,7 +29,7 @@ withPhantom f = f ++ (0 ∷ [])
 unfoldable pub within : ℕ → ℕ → ℕ → Bool
 within first last c = leb first c && leb c last
 
--- How many data octets follow a code, and how many zeros stand after them. D1, D2, FF and zero are no codes.
+-- The code table: how many data octets follow a code, and how many zeros stand after them. Zero, D1, D2 and FF are in no row.
 unfoldable pub codeTable : ℕ → Meaning
 codeTable c =
     if within 0x01 0xCF c then Counts (c - 1) 1
@@ -38,11 +38,11 @@ codeTable c =
     else if within 0xE0 0xFE c then Counts (c - 0xE0) 2
     else NoCode
 
--- A code under the setting ZXE, which alone allows D3-FE.
+-- the table under a setting: only ZXE allows D3-FE
 unfoldable pub meaning : Bool → ℕ → Meaning
 meaning zxe c = if within 0xD3 0xFE c && not zxe then NotAgreed else codeTable c
 
--- ---- 7E and 00 exchanged
+-- ---- the exchange of 7E and 00
 
 abbrev pub flag : ℕ
 flag = 0x7E
@@ -75,7 +75,7 @@ zeros = leading isZero
 abbrev pub nonzeros : ℕ → List ℕ → ℕ
 nonzeros = leading nonZero
 
--- at a rest of D: the code of the next block, its data octets and its zeros
+-- at a rest of D: the code of the next block, and how many data octets and zeros it has
 unfoldable pub choice : Bool → List ℕ → Choice
 choice zxe rest =
     let run = zeros 15 rest in
@@ -87,7 +87,7 @@ choice zxe rest =
 
 -- ---- lists of blocks
 
--- a block: a code octet and data octets
+-- a block: a code octet and its data octets
 pub record Block : Type 0 where
   pub code : ℕ
   pub octets : List ℕ
@@ -110,17 +110,17 @@ pub record Allowed (zxe : Bool) (b : Block) : Type 0 where
 abbrev pub AllAllowed : Bool → List Block → Type 0
 AllAllowed zxe bs = (b : Block) → List·Memᴰ b bs → Allowed zxe b
 
--- what blocks stand for in D: their data octets, each with its zeros after them
+-- what blocks stand for in D: the data octets of each, and its zeros after them
 unfoldable pub decoded : List Block → List ℕ
 decoded = flatMap (λ b. b .octets ++ replicate (zerosAfter b) 0)
 
--- the octets of blocks on the line
+-- the octets of blocks as they are sent
 unfoldable pub onLine : List Block → List ℕ
 onLine = flatMap (λ b. map toLine (b .code ∷ b .octets))
 
 -- ---- the blocks of a whole frame
 
--- how much of D a choice covers, and the block it makes there
+-- how much of a rest of D a choice covers, and the block that it makes of it
 abbrev pub covered : Choice → ℕ
 covered c = c .octets + c .zeros
 
@@ -136,30 +136,30 @@ cut zxe (suc n) (x ∷ l) =
     let c = choice zxe rest in
     blockAt rest c ∷ cut zxe n (drop (covered c) rest)
 
--- a block covers at least one octet of D, so it has as many at most
+-- the blocks of D: each covers an octet of it or more, so there are no more blocks than octets
 unfoldable pub blocks : Bool → List ℕ → List Block
 blocks zxe d = cut zxe (length d) d
 
--- what is sent of a frame that nothing interrupts, before its flag
+-- what is sent of a frame that nothing interrupts, without its flag
 unfoldable pub sent : Bool → List ℕ → List ℕ
 sent zxe f = onLine (blocks zxe (withPhantom f))
 
 -- ---- reading blocks back
 
--- The first block of a list, its code c and what the code means: `behind k` is what is read behind its k data octets.
+-- The block that begins with the code c, of the octets l behind it: `behind k` is what is read after k of them.
 abbrev pub readBlock : ℕ → List ℕ → Meaning → (ℕ → Option (List Block)) → Option (List Block)
 readBlock c l (Counts k z) behind =
     if leb k (length l) then Option·map (λ bs. record { code = c; octets = take k l } ∷ bs) (behind k) else none
 readBlock c l NotAgreed behind = none
 readBlock c l NoCode behind = none
 
--- A code, as many data octets as it says, and so on to the end; none where a code is no code or not agreed, or a block breaks off.
--- The octets are turned back already, and there are fewer than n blocks.
+-- A code, as many data octets as it says, and so on to the end of the octets, which are turned back already; none where there is no such
+-- code, or it is not agreed, or a block breaks off. There are fewer than n blocks.
 unfoldable pub parse : Bool → ℕ → List ℕ → Option (List Block)
 parse zxe zero l = none
 parse zxe (suc n) [] = some []
 parse zxe (suc n) (c ∷ l) = readBlock c l (meaning zxe c) (λ k. parse zxe n (drop k l))
 
--- the octets of a frame, without its flag, as blocks
+-- the blocks of a frame, read from what was sent of it
 unfoldable pub readBlocks : Bool → List ℕ → Option (List Block)
 readBlocks zxe line = parse zxe (length line + 1) (map fromLine line)

@@ -5,9 +5,11 @@ ghost use Rattle.cobs.specs.CodeBlocks.{withPhantom, meaning, toLine, fr
 // The octet that closes a frame.
 pub const FLAG: u8 = 0x7e;
 
-// What a code says: so many data octets follow, and so many zeros stand after them; or it needs ZXE, which is off; or it is no code.
+// What a code says.
 pub enum Meaning {
+    // so many data octets follow, and so many zeros stand after them
     Counts { octets: u8, zeros: u8 },
+    // the code needs ZXE, which is off
     NotAgreed,
     NoCode,
 }
@@ -79,9 +81,9 @@ pub fn look_up(code: u8, zxe: bool) -> Meaning
     }
 }
 
-// Below, rest is what is left of a frame. The rest of D is that and the phantom, which is not stored: it stands at the slice's end.
+// In what follows, rest is what is left of a frame. The rest of D is that and the phantom, which is not stored: the slice's end is its place.
 
-// The count of non-zero octets before the first zero, stopped at 207.
+// How many octets that are not zero come first; the count breaks off at a zero or at 207.
 fn count_nonzeros(rest: &[u8]) -> u8
     ensures { λ r. ⌜ r ≡ nonzeros 207 (withPhantom (now (rest .entry))) ⌝ }
 {
@@ -101,7 +103,7 @@ fn count_nonzeros(rest: &[u8]) -> u8
     k as u8
 }
 
-// The count of leading zeros, stopped at most.
+// How many zeros come first; the count breaks off at another octet, at the end of D or at most.
 fn count_zeros(rest: &[u8], most: u8) -> u8
     ensures { λ r. ⌜ r ≡ zeros most (withPhantom (now (rest .entry))) ⌝ }
 {
@@ -121,7 +123,7 @@ fn count_zeros(rest: &[u8], most: u8) -> u8
     k as u8
 }
 
-// The sender's choice.
+// The block that a sender sends next.
 pub fn choose(rest: &[u8], zxe: bool) -> Choice
     ensures { λ r. ⌜ r ≡ choice zxe (withPhantom (now (rest .entry))) ⌝ }
 {
