@@ -80,8 +80,8 @@ def choice(rest, zxe):
     return [chosen] + TABLE[chosen][1:]
 
 
-def edge(counts, zxe):
-    return choice(b"1" * counts[0] + b"\0" * counts[1], zxe)
+def nonzero(count, zxe):
+    return choice(b"1" * count[0], zxe)
 
 
 def exchange(octets, _):
@@ -103,12 +103,14 @@ def code_blocks():
     stream = "7E 08 01 02 03 7E 04 11 12 13 7E 04 21 22 23 7E D1 05 04 05 06 07 7E"
     frames = [frame.strip().removeprefix("D1 ") for frame in stream.split("7E")]
     ask(code, "block", True, *filter(None, frames))
-    ask(choice, "choice at", True, "01 02 03 04 05 06 07", "11 12 13", "21 22 23", "04 05 06 07")
-    ask(choice, "choice at", True, "00 00 47 0F", "47 0F", "7E 7E 6A FF", "31 32 33 34 35 36 37 38 39 6E 90")
-    ask(choice, "choice at", False, "00 00 47 0F")
-    edges = "choice at octets and zeros"
-    ask(edge, edges, True, "CE 00", "CF 00", "1E 01", "1F 01", "1E 00", "00 00", "00 01", "00 02", "00 0E", "00 10")
-    ask(edge, edges, False, "CE 01", "CF 01", "1E 01", "00 10")
+    packets = ["01 02 03 04 05 06 07", "11 12 13", "21 22 23", "04 05 06 07"]
+    marked = ["00 00 47 0F", "47 0F", "7E 7E 6A FF", "31 32 33 34 35 36 37 38 39 6E 90"]
+    runs = ["00 " * zeros for zeros in (1, 2, 14, 16)]
+    thirty = "31 32 33 34 35 36 37 38 39 30 " * 3
+    pairs = [thirty + "00", thirty + "00 31", thirty + "31 00"]
+    ask(choice, "choice at", True, *packets, *marked, *runs, *pairs)
+    ask(choice, "choice at", False, marked[0], runs[-1], pairs[0])
+    ask(nonzero, "choice at non-zero octets", True, "01", "CE", "CF")
 
 
 check_sequence()
