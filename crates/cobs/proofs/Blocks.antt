@@ -1,10 +1,10 @@
 -- Lists of blocks: what they decode to, what they are on the line, and that a list is read back from that.
 -- Assumes nothing.
-use mathlib.Core.Path.{_≡_, refl, ap, sym}
+use mathlib.Core.Path.{_≡_, refl, ap, sym, _∙_}
 use mathlib.Core.Bool.{Bool}
 use mathlib.Core.Logic.{⊎-elim}
 use mathlib.Core.List.{List, [], _∷_, _++_, map, flatMap, List·Memᴰ, List·Memᴰ·head, List·Memᴰ·tail, List·Memᴰ·not-nil, List·Memᴰ·append-cases, Memᴰ·of-map}
-use mathlib.Core.Option.{some}
+use mathlib.Core.Option.{some, Option·some-injective}
 use Prim.Native.Nat.{ℕ, zero, suc, _+_, _≤_, _<_}
 use native.Mathlib.Omega.{arith}
 use borrow.Author.Tests.{le-leb}
@@ -63,7 +63,12 @@ turned : (zxe : Bool) (b : Block) (bs : List Block) → Allowed zxe b
     → map fromLine (onLine (b ∷ bs)) ≡ b .code ∷ (b .octets ++ map fromLine (onLine bs))
 turned zxe b bs a =
     let k = numbers (read-row zxe (b .code) _ _ (a .agreed)) .code-some in
-    rw (on-line-cons b bs, turned-back (b .code) (λ e. omega arith), map-append fromLine (map toLine (b .octets)) (onLine bs), map-back (b .octets) (a .nonzero))
+    rw (
+      on-line-cons b bs,
+      turned-back (b .code) (λ e. omega arith),
+      map-append fromLine (map toLine (b .octets)) (onLine bs),
+      map-back (b .octets) (a .nonzero),
+    )
 
 module _ (zxe : Bool) where
   parse-line : (n : ℕ) (bs : List Block) → AllAllowed zxe bs → length bs < n → parse zxe n (map fromLine (onLine bs)) ≡ some bs
@@ -74,13 +79,24 @@ module _ (zxe : Bool) where
       let a = all b (List·Memᴰ·head refl) in
       let rest = map fromLine (onLine bs) in
       let ih : parse zxe n rest ≡ some bs = parse-line n bs (λ x m. all x (List·Memᴰ·tail m)) (omega arith) in
-      rw (turned zxe b bs a, a .agreed, le-leb (length (b .octets)) (length (b .octets ++ rest)) (omega (arith, length-append (b .octets) rest)), drop-append-seam (b .octets) rest, ih, take-append-seam (b .octets) rest)
+      rw (
+        turned zxe b bs a,
+        a .agreed,
+        le-leb (length (b .octets)) (length (b .octets ++ rest)) (omega (arith, length-append (b .octets) rest)),
+        drop-append-seam (b .octets) rest,
+        ih,
+        take-append-seam (b .octets) rest,
+      )
 
   fewer : (bs : List Block) → length bs ≤ length (onLine bs)
   fewer [] = omega arith
   fewer (b ∷ bs) = omega (arith, fewer bs, line-length b bs)
 
-  -- every list of allowed blocks is read back from its octets, and so no other list has the same
+  -- every list of allowed blocks is read back from its octets
   pub reads-back : (bs : List Block) → AllAllowed zxe bs → readBlocks zxe (onLine bs) ≡ some bs
   unfolding readBlocks
   reads-back bs all = parse-line (length (onLine bs) + 1) bs all (omega (arith, fewer bs))
+
+  -- so no two of them have the same
+  pub one-reading : (bs cs : List Block) → AllAllowed zxe bs → AllAllowed zxe cs → onLine bs ≡ onLine cs → bs ≡ cs
+  one-reading bs cs all also e = Option·some-injective bs cs (sym (reads-back bs all) ∙ (ap (readBlocks zxe) e ∙ reads-back cs also))

@@ -15,7 +15,7 @@ use Rattle.cobs.proofs.Leading.{EndsInZero, at-most, within, zeros-at, 
 use Rattle.cobs.proofs.Phantom.{long, ends, ends-drop}
 use Rattle.cobs.proofs.Table.{Row, plain-row, full-row, run-row, pair-row}
 
--- A block that fits a rest of D: its code is agreed, its data octets stand next and none is zero, then its zeros stand.
+-- A block that stands at the head of a rest of D: its code is agreed, its data octets stand next and none is zero, then its zeros stand.
 -- The data octets are not all of the rest, since the phantom is none of them.
 pub record Stands (zxe : Bool) (rest : List ℕ) (c : Choice) : Type 0 where
   pub row : Row zxe (c .code) (c .octets) (c .zeros)

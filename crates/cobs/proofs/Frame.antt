@@ -31,7 +31,7 @@ no-zero : (l : List ℕ) → ((i : ℕ) → i < length l → getD l i 0 ≡ 0 �
 no-zero [] h m = List·Memᴰ·not-nil m
 no-zero (x ∷ l) h m = ⊎-elim (λ e. h 0 (omega arith) (sym e)) (no-zero l (λ i k. h (suc i) (omega arith))) (List·Memᴰ·cases-cons m)
 
--- ---- a block that fits
+-- ---- a block that stands at the head of a rest of D
 
 module _ (zxe : Bool) (rest : List ℕ) (c : Choice) (f : Stands zxe rest c) where
   data-long : length (take (c .octets) rest) ≡ c .octets
@@ -44,7 +44,11 @@ module _ (zxe : Bool) (rest : List ℕ) (c : Choice) (f : Stands zxe rest c) whe
   block-allowed =
       record {
         agreed = rw (data-long, zeros-is) (row-read (f .row));
-        nonzero = no-zero (take (c .octets) rest) (λ i h q. let k : i < c .octets = omega (arith, data-long) in f .nonzero i k (sym (getD-take (c .octets) rest i 0 k) ∙ q));
+        nonzero =
+            no-zero (take (c .octets) rest)
+            (λ i h q.
+            let k : i < c .octets = omega (arith, data-long) in
+            f .nonzero i k (sym (getD-take (c .octets) rest i 0 k) ∙ q));
       }
 
   -- its zeros stand behind its data octets
@@ -55,7 +59,10 @@ module _ (zxe : Bool) (rest : List ℕ) (c : Choice) (f : Stands zxe rest c) whe
       ext-getD 0 (take (c .zeros) behind) (replicate (c .zeros) 0) (n ∙ sym (length-replicate (c .zeros) 0))
       (λ i h.
       let k : i < c .zeros = omega arith in
-      getD-take (c .zeros) behind i 0 k ∙ (getD-drop (c .octets) rest i 0 ∙ (f .zero (c .octets + i) (omega arith) (omega arith) ∙ sym (getD-replicate (c .zeros) i 0 0 k))))
+      getD-take (c .zeros) behind i 0 k
+      ∙ (getD-drop (c .octets) rest i 0
+      ∙ (f .zero (c .octets + i) (omega arith) (omega arith)
+      ∙ sym (getD-replicate (c .zeros) i 0 0 k))))
 
   -- the rest is what the block stands for and what is behind it
   pub block-covers : take (c .octets) rest ++ replicate (zerosAfter (blockAt rest c)) 0 ++ drop (covered c) rest ≡ rest
@@ -99,7 +106,7 @@ module _ (zxe : Bool) where
           let k = covered (choice zxe rest) in
           next rest _ f (by-cut n (drop k rest) (ends-drop rest e k) (omega (arith, length-drop k rest)))
 
-      -- what holds of no blocks, and of a block that fits before blocks of which it holds, holds of the blocks of D
+      -- what holds of no blocks, and of a block that stands there and blocks behind it of which it holds, holds of the blocks of D
       pub by-blocks : (d : List ℕ) → EndsInZero d → P d (blocks zxe d)
       unfolding blocks
       by-blocks d e = by-cut (length d) d e (omega arith)
@@ -124,7 +131,8 @@ module _ (zxe : Bool) where
       let k = covered (choice zxe rest) in
       sym (cut-same (suc (length rest)) rest e (omega arith))
       ∙ (cut-next (length rest) rest h
-      ∙ ap (λ (bs : List Block). blockAt rest (choice zxe rest) ∷ bs) (cut-same (length rest) (drop k rest) (ends-drop rest e k) (omega (arith, length-drop k rest))))
+      ∙ ap (λ (bs : List Block). blockAt rest (choice zxe rest) ∷ bs)
+      (cut-same (length rest) (drop k rest) (ends-drop rest e k) (omega (arith, length-drop k rest))))
 
 -- ---- a whole frame
 
@@ -138,7 +146,9 @@ module _ (zxe : Bool) (f : List ℕ) where
 
   pub frame-decodes : decoded (blocks zxe (withPhantom f)) ≡ withPhantom f
   frame-decodes =
-      by-blocks zxe (λ d bs. decoded bs ≡ d) decoded-nil (λ rest bs fits ih. rw (decoded-cons, ih) (block-covers zxe rest (choice zxe rest) fits)) (withPhantom f) (ends f)
+      by-blocks zxe (λ d bs. decoded bs ≡ d) decoded-nil
+      (λ rest bs fits ih. rw (decoded-cons, ih) (block-covers zxe rest (choice zxe rest) fits))
+      (withPhantom f) (ends f)
 
   -- what is sent of it has no flag, and is read back as its blocks and so as D
   pub frame-flagless : List·Memᴰ flag (sent zxe f) → ⊥

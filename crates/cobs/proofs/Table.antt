@@ -92,7 +92,9 @@ module _ (zxe : Bool) (c : ℕ) where
 pub agreed-table : (zxe : Bool) (c n z : ℕ) → meaning zxe c ≡ Counts n z → codeTable c ≡ Counts n z
 unfolding meaning
 agreed-table zxe c n z =
-    branch (λ m. m ≡ Counts n z → codeTable c ≡ Counts n z) (within 0xD3 0xFE c && not zxe) (λ e q. absurd (let w : _≡_ {A = ℕ} 0 1 = cc in omega arith)) (λ e q. q)
+    branch (λ m. m ≡ Counts n z → codeTable c ≡ Counts n z) (within 0xD3 0xFE c && not zxe)
+    (λ e q. absurd (let w : _≡_ {A = ℕ} 0 1 = cc in omega arith))
+    (λ e q. q)
 
 -- ---- the four rows as one view: a code that is agreed, its data octets and its zeros
 
