@@ -4,7 +4,8 @@
     python3 tests/vectors.py | diff - crates/vectors/stdout
 
 The check sequence is Python's own CRC (binascii.crc_hqx) with its bits reversed; the code table and the sender's choice are written
-from the COBS draft, sections 3 to 3.3, with document 01's rule for which code is chosen. Nothing here is taken from the Rattle source.
+from the COBS draft, sections 3 to 3.3, with document 01's rule for which code is chosen. What is asked, and how a line is worded, is
+the program's; every answer is computed here.
 """
 import binascii
 

@@ -3,12 +3,12 @@
 use mathlib.Core.Path.{_≡_, refl, ap, sym, _∙_}
 use mathlib.Core.Bool.{Bool}
 use mathlib.Core.Logic.{⊎-elim}
-use mathlib.Core.List.{List, [], _∷_, _++_, map, flatMap, List·Memᴰ, List·Memᴰ·head, List·Memᴰ·tail, List·Memᴰ·not-nil, List·Memᴰ·append-cases, Memᴰ·of-map}
+use mathlib.Core.List.{List, [], _∷_, _++_, map, map-append, flatMap, List·Memᴰ, List·Memᴰ·head, List·Memᴰ·tail, List·Memᴰ·not-nil, List·Memᴰ·append-cases, Memᴰ·of-map}
 use mathlib.Core.Option.{some, Option·some-injective}
 use Prim.Native.Nat.{ℕ, zero, suc, _+_, _≤_, _<_}
 use native.Mathlib.Omega.{arith}
 use borrow.Author.Tests.{le-leb}
-use lib.ListN.{length, replicate, length-append}
+use lib.ListN.{length, replicate, length-append, length-map}
 use lib.Seq.{take-append-seam, drop-append-seam}
 use Rattle.cobs.specs.CodeBlocks.{flag, toLine, fromLine, Block, Allowed, AllAllowed, zerosAfter, decoded, onLine, parse, readBlocks}
 use Rattle.cobs.proofs.Table.{read-row, numbers}
@@ -32,12 +32,8 @@ pub on-line-cons : (b : Block) (bs : List Block) → onLine (b ∷ bs) ≡ toLin
 unfolding onLine flatMap
 on-line-cons b bs = refl
 
-length-map : (f : ℕ → ℕ) (l : List ℕ) → length (map f l) ≡ length l
-length-map f [] = refl
-length-map f (x ∷ l) = ap suc (length-map f l)
-
 pub line-length : (b : Block) (bs : List Block) → length (onLine (b ∷ bs)) ≡ 1 + length (b .octets) + length (onLine bs)
-line-length b bs = omega (arith, ap length (on-line-cons b bs), length-append (map toLine (b .octets)) (onLine bs), length-map toLine (b .octets))
+line-length b bs = omega (arith, ap length (on-line-cons b bs), length-append (map toLine (b .octets)) (onLine bs), length-map (b .octets) toLine)
 
 -- no flag is among them
 pub line-flagless : (bs : List Block) → List·Memᴰ flag (onLine bs) → ⊥
@@ -53,10 +49,6 @@ line-flagless (b ∷ bs) m =
 map-back : (l : List ℕ) → (List·Memᴰ 0 l → ⊥) → map fromLine (map toLine l) ≡ l
 map-back [] h = refl
 map-back (x ∷ l) h = rw (turned-back x (λ e. h (List·Memᴰ·head (sym e))), map-back l (λ m. h (List·Memᴰ·tail m)))
-
-map-append : (f : ℕ → ℕ) (s t : List ℕ) → map f (s ++ t) ≡ map f s ++ map f t
-map-append f [] t = refl
-map-append f (x ∷ s) t = ap (λ (l : List ℕ). f x ∷ l) (map-append f s t)
 
 -- the octets of blocks, not yet exchanged
 turned : (zxe : Bool) (b : Block) (bs : List Block) → Allowed zxe b
