@@ -1,0 +1,148 @@
+-- Every call keeps a state in bounds, and a run from a fresh end is never refused 3.
+-- Assumes nothing.
+use mathlib.Core.Path.{_≡_, refl, sym, subst, _∙_}
+use mathlib.Core.Bool.{Bool, true, false, not, _||_}
+use mathlib.Core.Logic.{⊎-elim}
+use mathlib.Core.List.{List, [], _∷_, map, List·Memᴰ, List·Memᴰ·not-nil, List·Memᴰ·cases-cons}
+use Prim.Native.Nat.{ℕ}
+use native.Mathlib.Omega.{arith}
+use borrow.Author.Tests.{ltb-false, eqb-true, eqb-false}
+use lib.Dec.{ltb, eqb}
+use lib.ListN.{length}
+use Rattle.cobs.specs.CodeBlocks.{flag}
+use Rattle.cobs.proofs.Tests.{branch, decide}
+use Rattle.link.specs.Agreed.{Agreed, agreed, leastPacket, largestFrame, mostDecoded}
+use Rattle.link.specs.Answers.{refused}
+use Rattle.link.specs.Sender.{Lane, low, high, OnLine, neither, sending, Sender, Sending, Step, Load, answer, area, queue, loaded, dataOf, takeLine, steps, next, put, load, inBounds}
+use Rattle.link.specs.Receiver.{Receiver, Receiving, Receive, receive}
+use Rattle.link.specs.Receiver as receiver
+use Rattle.link.specs.Runs.{Call, loading, nextOctet, Station, opened, answers, afterLoad, afterNext, receives}
+use Rattle.link.specs.Demands.{KeepBounds, NeverOutOfBounds, fresh}
+use Rattle.link.proofs.Tests.{if-so, or-left, or-right}
+use Rattle.link.proofs.Way.{Way, ends, cuts, warns, goes, way}
+use Rattle.link.proofs.ReceiverBounds as heard
+use Rattle.link.proofs.SenderBounds as sent
+use Rattle.link.proofs.Sound.{Sound, sound-opened, sound-load, sound-next}
+
+-- ---- the receiver
+
+-- in bounds, whatever the areas
+record Inside (g : Agreed) (r : Receiver) : Type 0 where
+  agrees : agreed (r .settings) ≡ g
+  bounds : heard.Bounds g r
+
+module _ (g : Agreed) (e : Receiving) (x : ℕ) (b : Inside g (e .state)) where
+  abbrev short : Bool
+  short = ltb (length (e .first)) (mostDecoded g) || ltb (length (e .second)) (mostDecoded g)
+
+  receive-short : short ≡ true → receive e x ≡ record { report = refused 2; after = e }
+  unfolding receive
+  receive-short k = rw (b .agrees) (if-so _ _ _ k)
+
+  ready : short ≡ false → heard.Ready g e
+  ready k =
+      record {
+        agrees = b .agrees;
+        bounds = b .bounds;
+        first = ltb-false (length (e .first)) (mostDecoded g) (or-left (ltb (length (e .first)) (mostDecoded g)) (ltb (length (e .second)) (mostDecoded g)) k);
+        second = ltb-false (length (e .second)) (mostDecoded g) (or-right (ltb (length (e .first)) (mostDecoded g)) (ltb (length (e .second)) (mostDecoded g)) k);
+      }
+
+  receive-inside : Inside g (receive e x .after .state)
+  receive-inside =
+      decide short (λ k. rw (receive-short k) b)
+      (λ k. let z = heard.receive-ready g e x (ready k) in record { agrees = z .agrees; bounds = z .bounds })
+
+  receive-3 : receive e x .report ≡ refused 3 → ⊥
+  receive-3 =
+      decide short (λ k. rw (receive-short k) (λ q. let n : _≡_ {A = ℕ} 2 3 = cc in omega arith))
+      (λ k. decide (eqb x flag)
+      (λ f. rw (eqb-true x flag f)
+      (λ q. let h : heard.OfFrame (refused 3) = subst heard.OfFrame q (heard.flag-ends g e (ready k) .tells) in omega arith))
+      (λ f q.
+      let h : heard.OfFrame (refused 3) = subst heard.OfFrame (sym (heard.other-passes g e x (eqb-false x flag f) (ready k) .silent) ∙ q) tt in
+      omega arith))
+
+never-3 : (g : Agreed) (e : Receiving) (xs : List ℕ) → Inside g (e .state)
+    → List·Memᴰ (refused 3) (map (λ (h : Receive). h .report) (receives e xs)) → ⊥
+unfolding receives
+never-3 g e [] b m = List·Memᴰ·not-nil m
+never-3 g e (x ∷ xs) b m =
+    ⊎-elim (λ q. receive-3 g e x b (sym q)) (never-3 g (receive e x .after) xs (receive-inside g e x b)) (List·Memᴰ·cases-cons m)
+
+-- ---- the sender
+
+-- no step refuses
+way-3 : (g : Agreed) (l : Lane) (s : Sender) (d : List ℕ) (st : Step) → Way g l s d st → answer (st .out) ≡ refused 3 → ⊥
+way-3 g l s d st (ends over) q = let n : _≡_ {A = ℕ} 0 1 = cc in omega arith
+way-3 g l s d st (cuts short e pre urgent f) q = let n : _≡_ {A = ℕ} 0 1 = cc in omega arith
+way-3 g l s d st (warns short e pre urgent f) q = let n : _≡_ {A = ℕ} 0 1 = cc in omega arith
+way-3 g l s d st (goes x pos n z short v) q = let n : _≡_ {A = ℕ} 0 1 = cc in omega arith
+
+steps-3 : (g : Agreed) (e : Sending) (c : Bool) (o : OnLine) → answer (steps g e c o .out) ≡ refused 3 → ⊥
+unfolding steps takeLine
+steps-3 g e true o = λ q. (let n : _≡_ {A = ℕ} 0 1 = cc in omega arith)
+steps-3 g e false (sending l) = way-3 g l (e .state) _ _ (way g (e .state) (dataOf (queue l (e .state)) (area l e)) l)
+steps-3 g e false neither =
+    let s = e .state in
+    let P : Step → Type 0 = λ st. answer (st .out) ≡ refused 3 → ⊥ in
+    branch P (loaded (s .high)) (λ _. way-3 g high _ _ _ (way g _ (dataOf (s .high) (e .high)) high))
+    (λ _. branch P (not (loaded (s .low))) (λ _ q. let n : _≡_ {A = ℕ} 0 1 = cc in omega arith)
+    (λ _. branch P (s .suspended) (λ _ q. let n : _≡_ {A = ℕ} 0 1 = cc in omega arith)
+    (λ _. way-3 g low _ _ _ (way g _ (dataOf (s .low) (e .low)) low))))
+
+next-3 : (g : Agreed) (e : Sending) → agreed (e .state .settings) ≡ g → inBounds g (e .state) ≡ true → answer (next e .out) ≡ refused 3 → ⊥
+unfolding next
+next-3 g e ag b =
+    rw (ag, b)
+    (branch (λ (st : Step). answer (st .out) ≡ refused 3 → ⊥) (ltb (length (e .low)) (largestFrame g) || ltb (length (e .high)) (largestFrame g))
+    (λ _ q. let n : _≡_ {A = ℕ} 2 3 = cc in omega arith)
+    (λ _. steps-3 g e (e .state .cut) (e .state .on)))
+
+load-3 : (g : Agreed) (l : Lane) (p : List ℕ) (s : Sender) (a : List ℕ) → agreed (s .settings) ≡ g → inBounds g s ≡ true
+    → load l p s a .answer ≡ refused 3 → ⊥
+unfolding load put
+load-3 g l p s a ag b =
+    let P : Load → Type 0 = λ t. t .answer ≡ refused 3 → ⊥ in
+    rw (ag, b)
+    (branch P (ltb (length a) (largestFrame g)) (λ _ q. let n : _≡_ {A = ℕ} 2 3 = cc in omega arith)
+    (λ _. branch P (loaded (queue l s)) (λ _ q. let n : _≡_ {A = ℕ} 4 3 = cc in omega arith)
+    (λ _. branch P (ltb (length p) leastPacket || ltb (g .limit) (length p)) (λ _ q. let n : _≡_ {A = ℕ} 1 3 = cc in omega arith)
+    (λ _ q. let n : _≡_ {A = ℕ} 0 1 = cc in omega arith))))
+
+sender-3 : (g : Agreed) (w : Station) (cs : List Call) → Sound g w → List·Memᴰ (refused 3) (answers w cs) → ⊥
+unfolding answers
+sender-3 g w [] s m = List·Memᴰ·not-nil m
+sender-3 g w (loading l p ∷ cs) s m =
+    ⊎-elim (λ q. load-3 g l p (w .end .state) (area l (w .end)) (s .agrees) (sent.in-bounds g (w .end .state) (s .inside)) (sym q))
+    (sender-3 g (afterLoad l p w) cs (sound-load g l p w s)) (List·Memᴰ·cases-cons m)
+sender-3 g w (nextOctet ∷ cs) s m =
+    ⊎-elim (λ q. next-3 g (w .end) (s .agrees) (sent.in-bounds g (w .end .state) (s .inside)) (sym q))
+    (sender-3 g (afterNext true w) cs (sound-next g true w s)) (List·Memᴰ·cases-cons m)
+
+-- ---- the theorems
+
+kept-in : (t : ℕ) (s : Sender) → sent.Kept (agreed t) t s → inBounds (agreed (s .settings)) s ≡ true
+kept-in t s k = subst (λ (u : ℕ). inBounds (agreed u) s ≡ true) (sym (k .settings)) (sent.in-bounds (agreed t) s (k .bounds))
+
+pub keep-bounds : KeepBounds
+keep-bounds =
+    record {
+      load = λ l p s a b. kept-in (s .settings) _ (sent.load-keeps (agreed (s .settings)) l p s a refl (sent.bounds (agreed (s .settings)) s b));
+      next =
+          λ e b.
+          kept-in (e .state .settings) _ (sent.next-keeps (agreed (e .state .settings)) e refl (sent.bounds (agreed (e .state .settings)) (e .state) b));
+      receive =
+          λ e x b.
+          let g = agreed (e .state .settings) in
+          let i = receive-inside g e x (record { agrees = refl; bounds = heard.bounds g (e .state) b }) in
+          subst (λ (h : Agreed). receiver.inBounds h (receive e x .after .state) ≡ true) (sym (i .agrees))
+          (heard.in-bounds g (receive e x .after .state) (i .bounds));
+    }
+
+pub never-out-of-bounds : NeverOutOfBounds
+never-out-of-bounds =
+    record {
+      sender = λ t al ah cs m. sender-3 (agreed t) (opened t al ah) cs (sound-opened t al ah) m;
+      receiver = λ t a b xs m. never-3 (agreed t) (fresh t a b) xs (record { agrees = refl; bounds = heard.outside-in (agreed t) t _ _ tt }) m;
+    }

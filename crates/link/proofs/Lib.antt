@@ -1,0 +1,14 @@
+pub mod Tests
+pub mod Write
+pub mod ReceiverBounds
+pub mod Follow
+pub mod Way
+pub mod SenderBounds
+pub mod Sound
+pub mod Lock
+pub mod Early
+pub mod Demands
+pub mod Delivery
+pub mod InBounds
+pub mod AreasAside
+pub mod Marked

@@ -1,0 +1,350 @@
+-- The sender by itself: through every call of a run its areas hold the frames of the packets that its lanes were loaded with, and the
+-- block on the line stands in D.
+-- Assumes nothing.
+use mathlib.Core.Path.{_≡_, refl, sym, ap, _∙_}
+use mathlib.Core.Bool.{Bool, true, false, cond, not, _||_}
+use mathlib.Core.List.{List, [], _∷_, _++_}
+use mathlib.Core.Option.{Option, none, some}
+use Prim.Native.Nat.{ℕ, _+_, _≤_, _<_}
+use native.Mathlib.Omega.{arith}
+use borrow.Author.Tests.{ltb-true, not-false}
+use lib.Dec.{ltb}
+use lib.ListN.{length, take, drop, getD, length-take}
+use lib.Seq.{getD-drop, take-append-seam}
+use Rattle.cobs.specs.CodeBlocks.{frame}
+use Rattle.cobs.proofs.Tests.{branch}
+use Rattle.link.specs.Agreed.{Agreed, agreed, leastPacket, largestFrame}
+use Rattle.link.specs.Sender.{Lane, low, high, OnLine, neither, sending, Queue, Sender, sends, Step, area, dataOf, loaded, inBounds, onward, takeLine, steps, next, put}
+use Rattle.link.specs.Runs.{Packet, Station, opened, marked, loadedBy, afterLoad, afterStep, afterNext, run, Call, loading, nextOctet}
+use Rattle.link.proofs.Tests.{true-false, false-true}
+use Rattle.link.proofs.Way.{Advance, last, more, covers, opens, Way, ends, cuts, warns, goes, way}
+use Rattle.link.proofs.Follow.{BlockAt}
+use Rattle.link.proofs.SenderBounds as bounds
+
+abbrev pub station : Sender → List ℕ → List ℕ → Option Packet → Option Packet → Station
+station s al ah bl bh = record { end = record { state = s; low = al; high = ah }; lanes = record { low = bl; high = bh } }
+
+-- A lane's area holds the frame of the packet that was loaded.
+pub record StockOf (g : Agreed) (q : Queue) (a : List ℕ) (m : Packet) : Type 0 where
+  pub big : leastPacket ≤ length (m .octets)
+  pub long : q .length ≡ length (frame (g .check) (m .octets))
+  pub same : take (q .length) a ≡ frame (g .check) (m .octets)
+
+abbrev pub Stock : Agreed → Queue → List ℕ → Option Packet → Type 0
+Stock g q a none = q .length ≡ 0
+Stock g q a (some m) = StockOf g q a m
+
+-- a packet not begun before the chosen flag
+abbrev pub Young : Option Packet → Type 0
+Young none = Unit {0}
+Young (some m) = m .begun ≡ false
+
+-- a lane that has sent nothing of what it holds
+pub record Rested (q : Queue) (m : Option Packet) : Type 0 where
+  pub start : q .position ≡ 0
+  pub young : Young m
+
+-- a lane that was broken off, or is about to be
+pub record Waiting (g : Agreed) (q : Queue) : Type 0 where
+  pub short : q .position ≤ q .length
+  pub pre : g .pre ≡ true
+
+abbrev pub Aside : Agreed → Bool → Queue → Option Packet → Type 0
+Aside g true q m = Waiting g q
+Aside g false q m = Rested q m
+
+-- by the lane on the line, the mark suspended and whether a cut is due
+abbrev pub Line : Agreed → OnLine → Bool → Bool → Station → Type 0
+Line g neither u c w = Rested (w .end .state .high) (w .lanes .high) × Aside g u (w .end .state .low) (w .lanes .low)
+Line g (sending high) u c w =
+    BlockAt (dataOf (w .end .state .high) (w .end .high)) (w .end .state .high .position) (w .end .state .left) (w .end .state .zeros)
+    × Aside g u (w .end .state .low) (w .lanes .low)
+Line g (sending low) u false w =
+    BlockAt (dataOf (w .end .state .low) (w .end .low)) (w .end .state .low .position) (w .end .state .left) (w .end .state .zeros)
+    × Rested (w .end .state .high) (w .lanes .high)
+Line g (sending low) u true w = Waiting g (w .end .state .low) × Rested (w .end .state .high) (w .lanes .high)
+
+pub record Sound (g : Agreed) (w : Station) : Type 0 where
+  pub agrees : agreed (w .end .state .settings) ≡ g
+  pub inside : bounds.Bounds g (w .end .state)
+  pub stock·low : Stock g (w .end .state .low) (w .end .low) (w .lanes .low)
+  pub stock·high : Stock g (w .end .state .high) (w .end .high) (w .lanes .high)
+  pub line : Line g (w .end .state .on) (w .end .state .suspended) (w .end .state .cut) w
+
+pub stock-marked : (g : Agreed) (q q′ : Queue) (a : List ℕ) (early : Bool) (m : Option Packet) → q′ .length ≡ q .length → Stock g q a m
+    → Stock g q′ a (marked early m)
+stock-marked g q q′ a early none e h = e ∙ h
+stock-marked g q q′ a early (some m) e h = record { big = h .big; long = e ∙ h .long; same = ap (λ (n : ℕ). take n a) e ∙ h .same }
+
+pub stock-fits : (g : Agreed) (q : Queue) (a : List ℕ) (m : Option Packet) → Stock g q a m → q .length ≤ length a
+stock-fits g q a none h = omega arith
+stock-fits g q a (some m) h =
+    let e : length (take (q .length) a) ≡ q .length = ap length (h .same) ∙ sym (h .long) in
+    omega (arith, length-take (q .length) a)
+
+-- ---- the block on the line
+
+block-0 : (d : List ℕ) (pos n z : ℕ) → n ≡ 0 → z ≡ 0 → BlockAt d pos n z
+block-0 d pos n z e f = record { nonzero = λ i h. absurd (omega arith); zero = λ i h k. absurd (omega arith) }
+
+module _ (g : Agreed) (q : Queue) (a : List ℕ) (n z : ℕ) (fits : q .length ≤ length a) (even : n ≡ 0 → z ≡ 0) where
+  -- whatever octet of D is sent, the block stands next again
+  pub block-on : BlockAt (dataOf q a) (q .position) n z → q .position ≤ q .length → (x pos n′ z′ : ℕ)
+      → Advance (g .zxe) (dataOf q a) (q .position) n z x pos n′ z′ → BlockAt (dataOf q a) pos n′ z′
+  block-on b h x pos n′ z′ (last e) = block-0 (dataOf q a) _ 0 0 refl refl
+  block-on b h x pos n′ z′ (more e f) =
+      let d = dataOf q a in
+      let at : (i : ℕ) → getD d (q .position + 1 + i) 0 ≡ getD d (q .position + (1 + i)) 0 = (λ i. ap (λ (j : ℕ). getD d j 0) (omega arith)) in
+      record {
+        nonzero = λ i k s. b .nonzero (1 + i) (omega arith) (sym (at i) ∙ s);
+        zero = λ i k l. at i ∙ b .zero (1 + i) (omega arith) (omega arith);
+      }
+  block-on b h x pos n′ z′ (covers e f) = block-0 (dataOf q a) _ n z e (even e)
+  block-on b h x pos n′ z′ (opens e f) =
+      let ch = bounds.stands g q a fits h in
+      let d = dataOf q a in
+      record {
+        nonzero = λ i k s. ch .nonzero i k (getD-drop (q .position) d i 0 ∙ s);
+        zero = λ i k l. sym (getD-drop (q .position) d i 0) ∙ ch .zero i k l;
+      }
+
+module _ (g : Agreed) (early : Bool) (ql qh : Queue) (n z t : ℕ) (al ah : List ℕ) (bl bh : Option Packet) where
+  -- steps 3 to 6 of the high lane
+  pub sound-high : (u : Bool) → Sound g (station (bounds.sender ql qh n z (sending high) u false t) al ah bl bh)
+      → (st : Step) → Way g high (bounds.sender ql qh n z (sending high) u false t) (dataOf qh ah) st
+      → Sound g (afterStep early (station (bounds.sender ql qh n z (sending high) u false t) al ah bl bh) st)
+  sound-high u s st (ends over) =
+      let k = bounds.high-keeps g ql qh n z t u ah (stock-fits g qh ah bh (s .stock·high)) (s .inside) st (ends over) in
+      record {
+        agrees = s .agrees;
+        inside = k .bounds;
+        stock·low = s .stock·low;
+        stock·high = refl;
+        line = (record { start = refl; young = tt }, s .line .1);
+      }
+  sound-high u s st (cuts short e pre urgent f) = bounds.low-high e
+  sound-high u s st (warns short e pre urgent f) = bounds.low-high e
+  sound-high u s st (goes x pos n′ z′ short v) =
+      let fits = stock-fits g qh ah bh (s .stock·high) in
+      let k = bounds.high-keeps g ql qh n z t u ah fits (s .inside) st (goes x pos n′ z′ short v) in
+      record {
+        agrees = s .agrees;
+        inside = k .bounds;
+        stock·low = s .stock·low;
+        stock·high = stock-marked g qh _ ah early bh refl (s .stock·high);
+        line = (block-on g qh ah n z fits (s .inside .even) (s .line .0) short x pos n′ z′ v, s .line .1);
+      }
+
+  -- of the low lane
+  pub sound-low : Sound g (station (bounds.sender ql qh n z (sending low) false false t) al ah bl bh)
+      → (st : Step) → Way g low (bounds.sender ql qh n z (sending low) false false t) (dataOf ql al) st
+      → Sound g (afterStep early (station (bounds.sender ql qh n z (sending low) false false t) al ah bl bh) st)
+  sound-low s st (ends over) =
+      let k = bounds.low-keeps g ql qh n z t al (stock-fits g ql al bl (s .stock·low)) (s .inside) st (ends over) in
+      record {
+        agrees = s .agrees;
+        inside = k .bounds;
+        stock·low = refl;
+        stock·high = s .stock·high;
+        line = (s .line .1, record { start = refl; young = tt });
+      }
+  sound-low s st (cuts short e pre urgent f) =
+      let k = bounds.low-keeps g ql qh n z t al (stock-fits g ql al bl (s .stock·low)) (s .inside) st (cuts short e pre urgent f) in
+      record {
+        agrees = s .agrees;
+        inside = k .bounds;
+        stock·low = stock-marked g ql ql al early bl refl (s .stock·low);
+        stock·high = s .stock·high;
+        line = (s .line .1, record { short = short; pre = pre });
+      }
+  sound-low s st (warns short e pre urgent f) =
+      let k = bounds.low-keeps g ql qh n z t al (stock-fits g ql al bl (s .stock·low)) (s .inside) st (warns short e pre urgent f) in
+      record {
+        agrees = s .agrees;
+        inside = k .bounds;
+        stock·low = stock-marked g ql ql al early bl refl (s .stock·low);
+        stock·high = s .stock·high;
+        line = (record { short = short; pre = pre }, s .line .1);
+      }
+  sound-low s st (goes x pos n′ z′ short v) =
+      let fits = stock-fits g ql al bl (s .stock·low) in
+      let k = bounds.low-keeps g ql qh n z t al fits (s .inside) st (goes x pos n′ z′ short v) in
+      record {
+        agrees = s .agrees;
+        inside = k .bounds;
+        stock·low = stock-marked g ql _ al early bl refl (s .stock·low);
+        stock·high = s .stock·high;
+        line = (block-on g ql al n z fits (s .inside .even) (s .line .0) short x pos n′ z′ v, s .line .1);
+      }
+
+  -- a lane comes on the line
+  pub enter-high : (u : Bool) → 0 < qh .length → Sound g (station (bounds.sender ql qh n z neither u false t) al ah bl bh)
+      → Sound g (station (bounds.sender ql qh n z (sending high) u false t) al ah bl bh)
+  enter-high u h s =
+      record {
+        agrees = s .agrees;
+        inside = bounds.enter-high g ql qh n z t u h (s .inside);
+        stock·low = s .stock·low;
+        stock·high = s .stock·high;
+        line = (block-0 (dataOf qh ah) (qh .position) n z (s .inside .line .0) (s .inside .line .1), s .line .1);
+      }
+
+  pub enter-low : 0 < ql .length → Sound g (station (bounds.sender ql qh n z neither false false t) al ah bl bh)
+      → Sound g (station (bounds.sender ql qh n z (sending low) false false t) al ah bl bh)
+  enter-low h s =
+      record {
+        agrees = s .agrees;
+        inside = bounds.enter-low g ql qh n z t false h (s .inside);
+        stock·low = s .stock·low;
+        stock·high = s .stock·high;
+        line = (block-0 (dataOf ql al) (ql .position) n z (s .inside .line .0) (s .inside .line .1), s .line .0);
+      }
+
+  low-turn : (u : Bool) → 0 < ql .length → Sound g (station (bounds.sender ql qh n z neither u false t) al ah bl bh)
+      → Sound g (afterStep early (station (bounds.sender ql qh n z neither u false t) al ah bl bh)
+      (cond u (record { out = sends low 0xD1; state = bounds.sender ql qh n z (sending low) false false t })
+      (onward g low (bounds.sender ql qh n z (sending low) u false t) (dataOf ql al))))
+  low-turn true h s =
+      record {
+        agrees = s .agrees;
+        inside = bounds.enter-low g ql qh n z t true h (s .inside);
+        stock·low = stock-marked g ql ql al early bl refl (s .stock·low);
+        stock·high = s .stock·high;
+        line = (block-0 (dataOf ql al) (ql .position) n z (s .inside .line .0) (s .inside .line .1), s .line .0);
+      }
+  low-turn false h s =
+      sound-low (enter-low h s) _ (way g (bounds.sender ql qh n z (sending low) false false t) (dataOf ql al) low)
+
+  sound-steps : (o : OnLine) (u c : Bool) → Sound g (station (bounds.sender ql qh n z o u c t) al ah bl bh)
+      → Sound g (afterStep early (station (bounds.sender ql qh n z o u c t) al ah bl bh)
+      (steps g (record { state = bounds.sender ql qh n z o u c t; low = al; high = ah }) c o))
+  unfolding steps takeLine
+  sound-steps neither u true s = true-false (s .inside .line .2)
+  sound-steps (sending high) u true s = true-false (s .inside .line .1)
+  sound-steps (sending low) u true s =
+      record {
+        agrees = s .agrees;
+        inside = bounds.cut-keeps g ql qh n z t u (s .inside) .bounds;
+        stock·low = stock-marked g ql ql al early bl refl (s .stock·low);
+        stock·high = s .stock·high;
+        line = (s .line .1, s .line .0);
+      }
+  sound-steps (sending low) true false s = true-false (s .inside .line .1)
+  sound-steps (sending low) false false s = sound-low s _ (way g (bounds.sender ql qh n z (sending low) false false t) (dataOf ql al) low)
+  sound-steps (sending high) u false s = sound-high u s _ (way g (bounds.sender ql qh n z (sending high) u false t) (dataOf qh ah) high)
+  sound-steps neither u false s =
+      let w = station (bounds.sender ql qh n z neither u false t) al ah bl bh in
+      branch (λ st. Sound g (afterStep early w st)) (loaded qh)
+      (λ e.
+      sound-high u (enter-high u (ltb-true 0 (qh .length) e) s) _ (way g (bounds.sender ql qh n z (sending high) u false t) (dataOf qh ah) high))
+      (λ _. branch (λ st. Sound g (afterStep early w st)) (not (loaded ql)) (λ _. s)
+      (λ f. low-turn u (ltb-true 0 (ql .length) (not-false (loaded ql) f)) s))
+
+-- ---- the calls
+
+pub sound-next : (g : Agreed) (early : Bool) (w : Station) → Sound g w → Sound g (afterNext early w)
+unfolding afterNext next
+sound-next g early w s =
+    let e = w .end in
+    let r = e .state in
+    let P : Step → Type 0 = λ st. Sound g (afterStep early w st) in
+    rw (s .agrees)
+    (branch P (ltb (length (e .low)) (largestFrame g) || ltb (length (e .high)) (largestFrame g)) (λ _. s)
+    (λ _. branch P (not (inBounds g r)) (λ _. s)
+    (λ _.
+    sound-steps g early (r .low) (r .high) (r .left) (r .zeros) (r .settings) (e .low) (e .high) (w .lanes .low) (w .lanes .high)
+    (r .on) (r .suspended) (r .cut) s)))
+
+-- a load
+pub loaded-stock : (g : Agreed) (p a : List ℕ) → leastPacket ≤ length p
+    → StockOf g (bounds.q·p g p) (frame (g .check) p ++ drop (length (frame (g .check) p)) a) (record { octets = p; begun = false })
+loaded-stock g p a h =
+    record { big = h; long = refl; same = take-append-seam (frame (g .check) p) (drop (length (frame (g .check) p)) a) }
+
+module _ (g : Agreed) (p : List ℕ) (ql qh : Queue) (n z t : ℕ) (al ah : List ℕ) (bl bh : Option Packet) where
+  abbrev b·p : Option Packet
+  b·p = some (record { octets = p; begun = false })
+
+  abbrev a·p : List ℕ → List ℕ
+  a·p a = frame (g .check) p ++ drop (length (frame (g .check) p)) a
+
+  line-low : (o : OnLine) (u c : Bool) → bounds.LowOff o u c → Line g o u c (station (bounds.sender ql qh n z o u c t) al ah bl bh)
+      → Line g o u c (station (bounds.sender (bounds.q·p g p) qh n z o u c t) (a·p al) ah b·p bh)
+  line-low o u c bounds.low-off₁ l = (l .0, record { start = refl; young = refl })
+  line-low o u c bounds.low-off₂ l = (l .0, record { start = refl; young = refl })
+
+  line-high : (o : OnLine) (u c : Bool) → bounds.HighOff o u c → Line g o u c (station (bounds.sender ql qh n z o u c t) al ah bl bh)
+      → Line g o u c (station (bounds.sender ql (bounds.q·p g p) n z o u c t) al (a·p ah) bl b·p)
+  line-high o u c bounds.high-off₁ l = (record { start = refl; young = refl }, l .1)
+  line-high o u c bounds.high-off₂ l = (l .0, record { start = refl; young = refl })
+  line-high o u c bounds.high-off₃ l = (l .0, record { start = refl; young = refl })
+
+-- a run's load changes nothing, or is Done
+pub by-load : (g : Agreed) (l : Lane) (p : List ℕ) (w : Station) (P : Station → Type 0) → agreed (w .end .state .settings) ≡ g → P w
+    → (bounds.Accepts g l p (w .end .state) → P (loadedBy (put g l p (w .end .state) (area l (w .end))) l p w)) → P (afterLoad l p w)
+unfolding afterLoad
+by-load g low p w P ag same f = bounds.by-load g low p (w .end .state) (w .end .low) (λ t. P (loadedBy t low p w)) ag (λ _. same) f
+by-load g high p w P ag same f = bounds.by-load g high p (w .end .state) (w .end .high) (λ t. P (loadedBy t high p w)) ag (λ _. same) f
+
+-- the empty lane of a state in bounds
+pub low-is-off : (g : Agreed) (s : Sender) → bounds.Bounds g s → s .low .length ≡ 0 → bounds.LowOff (s .on) (s .suspended) (s .cut)
+low-is-off g s b e = bounds.low-off (s .low) (s .high) (s .left) (s .zeros) (s .on) (s .suspended) (s .cut) e (b .waits) (b .line)
+
+pub high-is-off : (g : Agreed) (s : Sender) → bounds.Bounds g s → s .high .length ≡ 0 → bounds.HighOff (s .on) (s .suspended) (s .cut)
+high-is-off g s b e = bounds.high-off (s .low) (s .high) (s .left) (s .zeros) (s .on) (s .suspended) (s .cut) e (b .line)
+
+pub sound-load : (g : Agreed) (l : Lane) (p : List ℕ) (w : Station) → Sound g w → Sound g (afterLoad l p w)
+unfolding put
+sound-load g low p w s =
+    let e = w .end in
+    let r = e .state in
+    by-load g low p w (Sound g) (s .agrees) s
+    (λ k.
+    record {
+      agrees = s .agrees;
+      inside = bounds.put-bounds g p (k .big) (k .small) low r (e .low) (k .free) (s .inside) .bounds;
+      stock·low = loaded-stock g p (e .low) (k .big);
+      stock·high = s .stock·high;
+      line =
+          line-low g p (r .low) (r .high) (r .left) (r .zeros) (r .settings) (e .low) (e .high) (w .lanes .low) (w .lanes .high)
+          (r .on) (r .suspended) (r .cut) (low-is-off g r (s .inside) (k .free)) (s .line);
+    })
+sound-load g high p w s =
+    let e = w .end in
+    let r = e .state in
+    by-load g high p w (Sound g) (s .agrees) s
+    (λ k.
+    record {
+      agrees = s .agrees;
+      inside = bounds.put-bounds g p (k .big) (k .small) high r (e .high) (k .free) (s .inside) .bounds;
+      stock·low = s .stock·low;
+      stock·high = loaded-stock g p (e .high) (k .big);
+      line =
+          line-high g p (r .low) (r .high) (r .left) (r .zeros) (r .settings) (e .low) (e .high) (w .lanes .low) (w .lanes .high)
+          (r .on) (r .suspended) (r .cut) (high-is-off g r (s .inside) (k .free)) (s .line);
+    })
+
+pub sound-opened : (t : ℕ) (a b : List ℕ) → Sound (agreed t) (opened t a b)
+sound-opened t a b =
+    record {
+      agrees = refl;
+      inside =
+          record {
+            low = record { size = λ k. absurd (k refl); place = omega arith };
+            high = record { size = λ k. absurd (k refl); place = omega arith };
+            few = omega arith;
+            two = omega arith;
+            even = λ _. refl;
+            line = (refl, refl, refl);
+            waits = λ e. false-true e;
+          };
+      stock·low = refl;
+      stock·high = refl;
+      line = (record { start = refl; young = tt }, record { start = refl; young = tt });
+    }
+
+pub sound-run : (g : Agreed) (w : Station) (cs : List Call) → Sound g w → Sound g (run w cs)
+unfolding run
+sound-run g w [] s = s
+sound-run g w (loading l p ∷ cs) s = sound-run g (afterLoad l p w) cs (sound-load g l p w s)
+sound-run g w (nextOctet ∷ cs) s = sound-run g (afterNext true w) cs (sound-next g true w s)

@@ -1,0 +1,46 @@
+-- Proofs by the value of a test, beside those of `cobs`.
+-- Assumes nothing.
+use mathlib.Core.Path.{_≡_, refl}
+use mathlib.Core.Bool.{Bool, true, false, cond, _&&_, _||_}
+use Prim.Native.Nat.{ℕ}
+use native.Mathlib.Omega.{arith}
+
+-- a choice whose test is known
+pub if-so {ℓ} : {A : Type ℓ} (b : Bool) (x y : A) → b ≡ true → cond b x y ≡ x
+if-so b x y e = rw e
+
+pub if-not {ℓ} : {A : Type ℓ} (b : Bool) (x y : A) → b ≡ false → cond b x y ≡ y
+if-not b x y e = rw e
+
+pub true-false : {Q : Type 0} → true ≡ false → Q
+true-false e = absurd (let z : _≡_ {A = ℕ} 0 1 = cc in omega arith)
+
+pub false-true : {Q : Type 0} → false ≡ true → Q
+false-true e = absurd (let z : _≡_ {A = ℕ} 0 1 = cc in omega arith)
+
+-- tests joined
+pub and-intro : (a b : Bool) → a ≡ true → b ≡ true → (a && b) ≡ true
+and-intro true b p q = q
+and-intro false b p q = p
+
+pub or-left : (a b : Bool) → (a || b) ≡ false → a ≡ false
+or-left true b e = e
+or-left false b e = refl
+
+pub or-right : (a b : Bool) → (a || b) ≡ false → b ≡ false
+or-right true b e = true-false e
+or-right false b e = e
+
+pub or-cases : {Q : Type 0} (a b : Bool) → (a || b) ≡ true → (a ≡ true → Q) → (b ≡ true → Q) → Q
+or-cases true b e f g = f refl
+or-cases false b e f g = g e
+
+-- six of them
+pub ands : (a b c d e f : Bool) → (a && b && c && d && e && f) ≡ true
+    → (a ≡ true) × (b ≡ true) × (c ≡ true) × (d ≡ true) × (e ≡ true) × (f ≡ true)
+ands true true true true true f q = (refl, refl, refl, refl, refl, q)
+ands true true true true false f q = false-true q
+ands true true true false e f q = false-true q
+ands true true false d e f q = false-true q
+ands true false c d e f q = false-true q
+ands false b c d e f q = false-true q
