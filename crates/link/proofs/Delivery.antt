@@ -15,7 +15,7 @@ use Rattle.link.specs.Sender.{Lane, low, high, OnLine, neither, sending,
 use Rattle.link.specs.Runs.{Packet, Station, Written, Call, loading, nextOctet, opened, writes, written, closed, gather, afterStep, afterNext, loadedBy, afterLoad}
 use Rattle.link.specs.Demands.{Delivery}
 use Rattle.link.proofs.Tests.{if-so, if-not}
-use Rattle.link.proofs.Way.{Advance, last, more, covers, opens, Way, ends, cuts, warns, goes, way}
+use Rattle.link.proofs.Way.{Advance, last, more, covers, opens, Way, ends, cuts, warns, goes, way, sender}
 use Rattle.link.proofs.Follow.{frame-long}
 use Rattle.link.proofs.SenderBounds as bounds
 use Rattle.link.proofs.Sound.{station, Sound, stock-fits, sound-high, sound-low, sound-opened, sound-load, enter-high, enter-low}
@@ -93,12 +93,12 @@ module _ (g : Agreed) (t : ℕ) (al ah : List ℕ) (h : largestFrame g ≤ lengt
   -- the high lane, whatever the low one holds
   high-way : (f : ℕ) (ql qh : Queue) (n z : ℕ) (o : OnLine) (u : Bool) (bl : Option Packet)
       → ((pos n′ z′ : ℕ) → rest (qh .length) pos n′ z′ < f
-      → Sound g (station (bounds.sender ql (record { length = qh .length; position = pos }) n′ z′ (sending high) u false t) al ah bl (some m))
-      → Closes (station (bounds.sender ql (record { length = qh .length; position = pos }) n′ z′ (sending high) u false t) al ah bl (some m)) (m .octets) f)
+      → Sound g (station (sender ql (record { length = qh .length; position = pos }) n′ z′ (sending high) u false t) al ah bl (some m))
+      → Closes (station (sender ql (record { length = qh .length; position = pos }) n′ z′ (sending high) u false t) al ah bl (some m)) (m .octets) f)
       → rest (qh .length) (qh .position) n z < suc f
-      → Sound g (station (bounds.sender ql qh n z (sending high) u false t) al ah bl (some m))
-      → (st : Step) → Way g high (bounds.sender ql qh n z (sending high) u false t) (dataOf qh ah) st
-      → ClosesBy (station (bounds.sender ql qh n z o u false t) al ah bl (some m)) st (m .octets) f
+      → Sound g (station (sender ql qh n z (sending high) u false t) al ah bl (some m))
+      → (st : Step) → Way g high (sender ql qh n z (sending high) u false t) (dataOf qh ah) st
+      → ClosesBy (station (sender ql qh n z o u false t) al ah bl (some m)) st (m .octets) f
   unfolding written
   high-way f ql qh n z o u bl ih r s st (ends past) = (0, omega arith, rw new)
   high-way f ql qh n z o u bl ih r s st (cuts short e pre urgent i) = bounds.low-high e
@@ -111,25 +111,25 @@ module _ (g : Agreed) (t : ℕ) (al ah : List ℕ) (h : largestFrame g ≤ lengt
       (c .0, c .1, gather-none (m .begun) _ ∙ c .2)
 
   high-ends : (f : ℕ) (ql qh : Queue) (n z : ℕ) (u : Bool) (bl : Option Packet) → rest (qh .length) (qh .position) n z < f
-      → Sound g (station (bounds.sender ql qh n z (sending high) u false t) al ah bl (some m))
-      → Closes (station (bounds.sender ql qh n z (sending high) u false t) al ah bl (some m)) (m .octets) f
+      → Sound g (station (sender ql qh n z (sending high) u false t) al ah bl (some m))
+      → Closes (station (sender ql qh n z (sending high) u false t) al ah bl (some m)) (m .octets) f
   unfolding steps
   high-ends zero ql qh n z u bl r s = absurd (omega arith)
   high-ends (suc f) ql qh n z u bl r s =
-      let w = station (bounds.sender ql qh n z (sending high) u false t) al ah bl (some m) in
+      let w = station (sender ql qh n z (sending high) u false t) al ah bl (some m) in
       from-call w _ (m .octets) f (unrefused-next g w s h k)
       (high-way f ql qh n z (sending high) u bl (λ pos n′ z′ r′ s′. high-ends f ql _ n′ z′ u bl r′ s′) r s _
-      (way g (bounds.sender ql qh n z (sending high) u false t) (dataOf qh ah) high))
+      (way g (sender ql qh n z (sending high) u false t) (dataOf qh ah) high))
 
   -- the low lane, with nothing in the high one
   low-way : (f : ℕ) (ql qh : Queue) (n z : ℕ) (o : OnLine) (bh : Option Packet) → qh .length ≡ 0
       → ((pos n′ z′ : ℕ) → rest (ql .length) pos n′ z′ < f
-      → Sound g (station (bounds.sender (record { length = ql .length; position = pos }) qh n′ z′ (sending low) false false t) al ah (some m) bh)
-      → Closes (station (bounds.sender (record { length = ql .length; position = pos }) qh n′ z′ (sending low) false false t) al ah (some m) bh) (m .octets) f)
+      → Sound g (station (sender (record { length = ql .length; position = pos }) qh n′ z′ (sending low) false false t) al ah (some m) bh)
+      → Closes (station (sender (record { length = ql .length; position = pos }) qh n′ z′ (sending low) false false t) al ah (some m) bh) (m .octets) f)
       → rest (ql .length) (ql .position) n z < suc f
-      → Sound g (station (bounds.sender ql qh n z (sending low) false false t) al ah (some m) bh)
-      → (st : Step) → Way g low (bounds.sender ql qh n z (sending low) false false t) (dataOf ql al) st
-      → ClosesBy (station (bounds.sender ql qh n z o false false t) al ah (some m) bh) st (m .octets) f
+      → Sound g (station (sender ql qh n z (sending low) false false t) al ah (some m) bh)
+      → (st : Step) → Way g low (sender ql qh n z (sending low) false false t) (dataOf ql al) st
+      → ClosesBy (station (sender ql qh n z o false false t) al ah (some m) bh) st (m .octets) f
   unfolding written
   low-way f ql qh n z o bh none·high ih r s st (ends past) = (0, omega arith, rw new)
   low-way f ql qh n z o bh none·high ih r s st (cuts short e pre urgent i) = absurd (omega arith)
@@ -142,43 +142,43 @@ module _ (g : Agreed) (t : ℕ) (al ah : List ℕ) (h : largestFrame g ≤ lengt
       (c .0, c .1, gather-none (m .begun) _ ∙ c .2)
 
   low-ends : (f : ℕ) (ql qh : Queue) (n z : ℕ) (bh : Option Packet) → qh .length ≡ 0 → rest (ql .length) (ql .position) n z < f
-      → Sound g (station (bounds.sender ql qh n z (sending low) false false t) al ah (some m) bh)
-      → Closes (station (bounds.sender ql qh n z (sending low) false false t) al ah (some m) bh) (m .octets) f
+      → Sound g (station (sender ql qh n z (sending low) false false t) al ah (some m) bh)
+      → Closes (station (sender ql qh n z (sending low) false false t) al ah (some m) bh) (m .octets) f
   unfolding steps
   low-ends zero ql qh n z bh e r s = absurd (omega arith)
   low-ends (suc f) ql qh n z bh e r s =
-      let w = station (bounds.sender ql qh n z (sending low) false false t) al ah (some m) bh in
+      let w = station (sender ql qh n z (sending low) false false t) al ah (some m) bh in
       from-call w _ (m .octets) f (unrefused-next g w s h k)
       (low-way f ql qh n z (sending low) bh e (λ pos n′ z′ r′ s′. low-ends f _ qh n′ z′ bh e r′ s′) r s _
-      (way g (bounds.sender ql qh n z (sending low) false false t) (dataOf ql al) low))
+      (way g (sender ql qh n z (sending low) false false t) (dataOf ql al) low))
 
   -- a lane that comes on the line
   high-first : (ql qh : Queue) (n z : ℕ) (u : Bool) (bl : Option Packet) → 0 < qh .length
-      → Sound g (station (bounds.sender ql qh n z neither u false t) al ah bl (some m))
-      → Closes (station (bounds.sender ql qh n z neither u false t) al ah bl (some m)) (m .octets) (suc (rest (qh .length) (qh .position) n z))
+      → Sound g (station (sender ql qh n z neither u false t) al ah bl (some m))
+      → Closes (station (sender ql qh n z neither u false t) al ah bl (some m)) (m .octets) (suc (rest (qh .length) (qh .position) n z))
   unfolding steps takeLine
   high-first ql qh n z u bl some·high s =
-      let w = station (bounds.sender ql qh n z neither u false t) al ah bl (some m) in
+      let w = station (sender ql qh n z neither u false t) al ah bl (some m) in
       let f = rest (qh .length) (qh .position) n z in
-      from-call w (onward g high (bounds.sender ql qh n z (sending high) u false t) (dataOf qh ah)) (m .octets) f
+      from-call w (onward g high (sender ql qh n z (sending high) u false t) (dataOf qh ah)) (m .octets) f
       (unrefused-next g w s h k ∙ if-so _ _ _ (lt-ltb 0 (qh .length) some·high))
       (high-way f ql qh n z neither u bl (λ pos n′ z′ r′ s′. high-ends f ql _ n′ z′ u bl r′ s′) (omega arith)
       (enter-high g false ql qh n z t al ah bl (some m) u some·high s) _
-      (way g (bounds.sender ql qh n z (sending high) u false t) (dataOf qh ah) high))
+      (way g (sender ql qh n z (sending high) u false t) (dataOf qh ah) high))
 
   low-first : (ql qh : Queue) (n z : ℕ) (bh : Option Packet) → 0 < ql .length → qh .length ≡ 0
-      → Sound g (station (bounds.sender ql qh n z neither false false t) al ah (some m) bh)
-      → Closes (station (bounds.sender ql qh n z neither false false t) al ah (some m) bh) (m .octets) (suc (rest (ql .length) (ql .position) n z))
+      → Sound g (station (sender ql qh n z neither false false t) al ah (some m) bh)
+      → Closes (station (sender ql qh n z neither false false t) al ah (some m) bh) (m .octets) (suc (rest (ql .length) (ql .position) n z))
   unfolding steps takeLine
   low-first ql qh n z bh some·low e s =
-      let w = station (bounds.sender ql qh n z neither false false t) al ah (some m) bh in
+      let w = station (sender ql qh n z neither false false t) al ah (some m) bh in
       let f = rest (ql .length) (ql .position) n z in
-      from-call w (onward g low (bounds.sender ql qh n z (sending low) false false t) (dataOf ql al)) (m .octets) f
+      from-call w (onward g low (sender ql qh n z (sending low) false false t) (dataOf ql al)) (m .octets) f
       (unrefused-next g w s h k
       ∙ (if-not _ _ _ (le-ltb 0 (qh .length) (omega arith)) ∙ if-not _ _ _ (ap not (lt-ltb 0 (ql .length) some·low))))
       (low-way f ql qh n z neither bh e (λ pos n′ z′ r′ s′. low-ends f _ qh n′ z′ bh e r′ s′) (omega arith)
       (enter-low g false ql qh n z t al ah (some m) bh some·low s) _
-      (way g (bounds.sender ql qh n z (sending low) false false t) (dataOf ql al) low))
+      (way g (sender ql qh n z (sending low) false false t) (dataOf ql al) low))
 
 -- ---- a fresh sender takes the packet
 

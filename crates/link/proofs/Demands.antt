@@ -14,11 +14,12 @@ use Rattle.link.specs.Agreed.{Agreed, agreed, mostDecoded}
 use Rattle.link.specs.Answers.{Answer, done, octet, idle, quiet, packet, held, refused}
 use Rattle.link.specs.Sender.{OnLine, neither, sending, low, high, Queue, Out, closes, breaks, sends, nothing, refuses, answer, next}
 use Rattle.link.specs.Receiver.{Receiving, Receive, receive}
+use Rattle.link.specs.Receiver as receiver
 use Rattle.link.specs.Runs.{Packet, Station, Written, Call, loading, nextOctet, opened, writes, written, octets, receives, received, Pointwise, Owed, isOld, gather, collect, packetIn, refusalIn, refusal, standsFor, closing, closed, run, afterLoad, afterNext}
 use Rattle.link.specs.Demands.{fresh, Through, SoundLine, Demand3}
 use Rattle.link.proofs.Tests.{false-true}
-use Rattle.link.proofs.ReceiverBounds.{Ready, flag-ends, receive-ready}
-use Rattle.link.proofs.SenderBounds as bounds
+use Rattle.link.proofs.ReceiverBounds.{Ready, outside-in, flag-ends, receive-ready}
+use Rattle.link.proofs.Way.{sender}
 use Rattle.link.proofs.Sound.{station, Stock, Young, Sound, sound-opened, sound-run, sound-load, sound-next}
 use Rattle.link.proofs.Lock.{Lock, Leads, lock-next, lock-load}
 use Rattle.link.proofs.Early.{Begun, Marked, Marks, marks-run, marks-next, flag-off}
@@ -103,22 +104,7 @@ through es hs a = record { each = a; packets = by-packets es hs a; refusals = by
 -- ---- the receiver before the chosen flag
 
 pub ready-fresh : (t : ℕ) (a b : List ℕ) → mostDecoded (agreed t) ≤ length a → mostDecoded (agreed t) ≤ length b → Ready (agreed t) (fresh t a b)
-ready-fresh t a b h k =
-    record {
-      agrees = refl;
-      bounds =
-          record {
-            deep = omega arith;
-            holds = tt;
-            few = omega arith;
-            two = omega arith;
-            refusals = λ q. absurd (q refl);
-            out = λ _. record { decoded·0 = refl; left·0 = refl; zeros·0 = refl; last·0 = refl; resumed·0 = refl; refusal·0 = refl };
-            begun = λ q. false-true q;
-          };
-      first = h;
-      second = k;
-    }
+ready-fresh t a b h k = record { agrees = refl; bounds = outside-in (agreed t) t false receiver.none tt; first = h; second = k }
 
 ready-all : (g : Agreed) (e : Receiving) (xs : List ℕ) → Ready g e → Ready g (received e xs)
 unfolding received
@@ -133,8 +119,8 @@ not-both g q a none st h b y = absurd (omega arith)
 not-both g q a (some m) st h b y = absurd (let z : _≡_ {A = ℕ} 0 1 = cc in omega arith)
 
 module _ (g : Agreed) (ql qh : Queue) (n z t : ℕ) (al ah : List ℕ) (bl bh : Option Packet) (e : Receiving) where
-  start : (o : OnLine) (u c : Bool) → o ≡ neither → Sound g (station (bounds.sender ql qh n z o u c t) al ah bl bh) → Marked o u bl → Ready g e
-      → e .state .framed ≡ false → Lock g (station (bounds.sender ql qh n z o u c t) al ah bl bh) e
+  start : (o : OnLine) (u c : Bool) → o ≡ neither → Sound g (station (sender ql qh n z o u c t) al ah bl bh) → Marked o u bl → Ready g e
+      → e .state .framed ≡ false → Lock g (station (sender ql qh n z o u c t) al ah bl bh) e
   start (sending l) u c q s m r out = absurd (let z : _≡_ {A = ℕ} 0 1 = cc in omega arith)
   start neither true c q s m r out =
       record { ready = r; young = s .line .0 .young; along = (out, λ y. not-both g ql al bl (s .stock·low) (s .inside .waits refl) m y) }

@@ -13,9 +13,9 @@ use Rattle.cobs.proofs.Tests.{branch}
 use Rattle.cobs.proofs.Exchange.{no-flag}
 use Rattle.link.specs.Agreed.{Agreed, agreed, largestFrame}
 use Rattle.link.specs.Answers.{Answer, octet, idle, refused}
-use Rattle.link.specs.Sender.{Lane, low, high, OnLine, neither, sending, Queue, Step, answer, dataOf, loaded, inBounds, takeLine, steps, next, put}
+use Rattle.link.specs.Sender.{Lane, low, high, OnLine, neither, sending, Queue, Step, answer, dataOf, inBounds, next, put}
 use Rattle.link.specs.Runs.{Packet, Lanes, Station, marked, lanesAfter, afterLoad, afterNext, run, Call, loading, nextOctet}
-use Rattle.link.proofs.Way.{Way, ends, cuts, warns, goes, way}
+use Rattle.link.proofs.Way.{Way, ends, cuts, warns, goes, sender, Turn, cut·due, idles, takes·up, begins·high, begins·low, high·on, low·on, turn}
 use Rattle.link.proofs.SenderBounds as bounds
 use Rattle.link.proofs.Sound.{Sound, by-load, low-is-off, sound-load, sound-next}
 
@@ -58,7 +58,7 @@ pub record After (st : Step) (b : Lanes) : Type 0 where
   pub off : asFlag (answer (st .out)) → st .state .on ≡ neither
 
 module _ (g : Agreed) (ql qh : Queue) (n z t : ℕ) (bl bh : Option Packet) (d : List ℕ) where
-  after-high : (u c : Bool) → Marked (sending high) u bl → (st : Step) → Way g high (bounds.sender ql qh n z (sending high) u c t) d st
+  after-high : (u c : Bool) → Marked (sending high) u bl → (st : Step) → Way g high (sender ql qh n z (sending high) u c t) d st
       → After st (record { low = bl; high = bh })
   after-high true c h st (ends over) = record { mark = h; off = λ _. refl }
   after-high false c h st (ends over) = record { mark = h; off = λ _. refl }
@@ -66,36 +66,22 @@ module _ (g : Agreed) (ql qh : Queue) (n z t : ℕ) (bl bh : Option Packet) (d :
   after-high u c h st (warns short e pre urgent f) = bounds.low-high e
   after-high u c h st (goes x pos n′ z′ short v) = record { mark = h; off = λ i. plain (toLine x) i (no-flag x) }
 
-  after-low : (u c : Bool) (st : Step) → Way g low (bounds.sender ql qh n z (sending low) u c t) d st → After st (record { low = bl; high = bh })
+  after-low : (u c : Bool) (st : Step) → Way g low (sender ql qh n z (sending low) u c t) d st → After st (record { low = bl; high = bh })
   after-low u c st (ends over) = record { mark = marked-none u; off = λ _. refl }
   after-low u c st (cuts short e pre urgent f) = record { mark = begun-marked bl; off = λ _. refl }
   after-low u c st (warns short e pre urgent f) = record { mark = begun-marked bl; off = λ i. plain 0x02 i (λ q. omega arith) }
   after-low u c st (goes x pos n′ z′ short v) = record { mark = begun-marked bl; off = λ i. plain (toLine x) i (no-flag x) }
 
 module _ (g : Agreed) (ql qh : Queue) (n z t : ℕ) (al ah : List ℕ) (bl bh : Option Packet) where
-  after-steps : (o : OnLine) (u c : Bool) → Marked o u bl
-      → After (steps g (record { state = bounds.sender ql qh n z o u c t; low = al; high = ah }) c o) (record { low = bl; high = bh })
-  unfolding steps takeLine
-  after-steps o u true h = record { mark = begun-marked bl; off = λ _. refl }
-  after-steps (sending low) u false h =
-      after-low g ql qh n z t bl bh (dataOf ql al) u false _ (way g (bounds.sender ql qh n z (sending low) u false t) (dataOf ql al) low)
-  after-steps (sending high) u false h =
-      after-high g ql qh n z t bl bh (dataOf qh ah) u false h _ (way g (bounds.sender ql qh n z (sending high) u false t) (dataOf qh ah) high)
-  after-steps neither u false h =
-      let P : Step → Type 0 = λ st. After st (record { low = bl; high = bh }) in
-      branch P (loaded qh)
-      (λ _.
-      after-high g ql qh n z t bl bh (dataOf qh ah) u false (on u h) _
-      (way g (bounds.sender ql qh n z (sending high) u false t) (dataOf qh ah) high))
-      (λ _. branch P (not (loaded ql)) (λ _. record { mark = h; off = λ i. silent i })
-      (λ _. branch P u (λ _. record { mark = begun-marked bl; off = λ i. plain 0xD1 i (λ q. omega arith) })
-      (λ _.
-      after-low g ql qh n z t bl bh (dataOf ql al) u false _
-      (way g (bounds.sender ql qh n z (sending low) u false t) (dataOf ql al) low))))
-    where
-      on : (u : Bool) → Marked neither u bl → Marked (sending high) u bl
-      on true h = h
-      on false h = h
+  after-turn : (o : OnLine) (u c : Bool) (st : Step) → Turn g ql qh n z t al ah o u c st → Marked o u bl → After st (record { low = bl; high = bh })
+  after-turn o u c st cut·due h = record { mark = begun-marked bl; off = λ _. refl }
+  after-turn o u c st idles h = record { mark = h; off = λ i. silent i }
+  after-turn o u c st (takes·up i) h = record { mark = begun-marked bl; off = λ q. plain 0xD1 q (λ r. omega arith) }
+  after-turn o true c st (begins·high i w) h = after-high g ql qh n z t bl bh (dataOf qh ah) true false h st w
+  after-turn o false c st (begins·high i w) h = after-high g ql qh n z t bl bh (dataOf qh ah) false false h st w
+  after-turn o u c st (begins·low i w) h = after-low g ql qh n z t bl bh (dataOf ql al) false false st w
+  after-turn o u c st (high·on w) h = after-high g ql qh n z t bl bh (dataOf qh ah) u false h st w
+  after-turn o u c st (low·on w) h = after-low g ql qh n z t bl bh (dataOf ql al) u false st w
 
 abbrev pub Marks : Station → Type 0
 Marks w = Marked (w .end .state .on) (w .end .state .suspended) (w .lanes .low)
@@ -110,8 +96,9 @@ after-next w h =
     branch P (ltb (length (e .low)) (largestFrame g) || ltb (length (e .high)) (largestFrame g)) (λ _. record { mark = h; off = λ i. no-octet 2 i })
     (λ _. branch P (not (inBounds g r)) (λ _. record { mark = h; off = λ i. no-octet 3 i })
     (λ _.
-    after-steps g (r .low) (r .high) (r .left) (r .zeros) (r .settings) (e .low) (e .high) (w .lanes .low) (w .lanes .high)
-    (r .on) (r .suspended) (r .cut) h))
+    after-turn g (r .low) (r .high) (r .left) (r .zeros) (r .settings) (e .low) (e .high) (w .lanes .low) (w .lanes .high)
+    (r .on) (r .suspended) (r .cut) _
+    (turn g (r .low) (r .high) (r .left) (r .zeros) (r .settings) (e .low) (e .high) (r .on) (r .suspended) (r .cut)) h))
 
 pub marks-next : (w : Station) → Marks w → Marks (afterNext true w)
 unfolding afterNext

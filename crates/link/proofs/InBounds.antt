@@ -1,7 +1,7 @@
 -- Every call keeps a state in bounds, and a run from a fresh end is never refused 3.
 -- Assumes nothing.
 use mathlib.Core.Path.{_≡_, refl, sym, subst, _∙_}
-use mathlib.Core.Bool.{Bool, true, false, not, _||_}
+use mathlib.Core.Bool.{Bool, true, false, _||_}
 use mathlib.Core.Logic.{⊎-elim}
 use mathlib.Core.List.{List, [], _∷_, map, List·Memᴰ, List·Memᴰ·not-nil, List·Memᴰ·cases-cons}
 use Prim.Native.Nat.{ℕ}
@@ -13,13 +13,13 @@ use Rattle.cobs.specs.CodeBlocks.{flag}
 use Rattle.cobs.proofs.Tests.{branch, decide}
 use Rattle.link.specs.Agreed.{Agreed, agreed, leastPacket, largestFrame, mostDecoded}
 use Rattle.link.specs.Answers.{refused}
-use Rattle.link.specs.Sender.{Lane, low, high, OnLine, neither, sending, Sender, Sending, Step, Load, answer, area, queue, loaded, dataOf, takeLine, steps, next, put, load, inBounds}
+use Rattle.link.specs.Sender.{Lane, low, high, OnLine, Queue, Sender, Sending, Step, Load, answer, area, queue, loaded, next, put, load, inBounds}
 use Rattle.link.specs.Receiver.{Receiver, Receiving, Receive, receive}
 use Rattle.link.specs.Receiver as receiver
 use Rattle.link.specs.Runs.{Call, loading, nextOctet, Station, opened, answers, afterLoad, afterNext, receives}
 use Rattle.link.specs.Demands.{KeepBounds, NeverOutOfBounds, fresh}
 use Rattle.link.proofs.Tests.{if-so, or-left, or-right}
-use Rattle.link.proofs.Way.{Way, ends, cuts, warns, goes, way}
+use Rattle.link.proofs.Way.{Way, ends, cuts, warns, goes, Turn, cut·due, idles, takes·up, begins·high, begins·low, high·on, low·on, turn}
 use Rattle.link.proofs.ReceiverBounds as heard
 use Rattle.link.proofs.SenderBounds as sent
 use Rattle.link.proofs.Sound.{Sound, sound-opened, sound-load, sound-next}
@@ -79,17 +79,15 @@ way-3 g l s d st (cuts short e pre urgent f) q = let n : _≡_ {A = ℕ} 0 1 = c
 way-3 g l s d st (warns short e pre urgent f) q = let n : _≡_ {A = ℕ} 0 1 = cc in omega arith
 way-3 g l s d st (goes x pos n z short v) q = let n : _≡_ {A = ℕ} 0 1 = cc in omega arith
 
-steps-3 : (g : Agreed) (e : Sending) (c : Bool) (o : OnLine) → answer (steps g e c o .out) ≡ refused 3 → ⊥
-unfolding steps takeLine
-steps-3 g e true o = λ q. (let n : _≡_ {A = ℕ} 0 1 = cc in omega arith)
-steps-3 g e false (sending l) = way-3 g l (e .state) _ _ (way g (e .state) (dataOf (queue l (e .state)) (area l e)) l)
-steps-3 g e false neither =
-    let s = e .state in
-    let P : Step → Type 0 = λ st. answer (st .out) ≡ refused 3 → ⊥ in
-    branch P (loaded (s .high)) (λ _. way-3 g high _ _ _ (way g _ (dataOf (s .high) (e .high)) high))
-    (λ _. branch P (not (loaded (s .low))) (λ _ q. let n : _≡_ {A = ℕ} 0 1 = cc in omega arith)
-    (λ _. branch P (s .suspended) (λ _ q. let n : _≡_ {A = ℕ} 0 1 = cc in omega arith)
-    (λ _. way-3 g low _ _ _ (way g _ (dataOf (s .low) (e .low)) low))))
+turn-3 : (g : Agreed) (ql qh : Queue) (n z t : ℕ) (al ah : List ℕ) (o : OnLine) (u c : Bool) (st : Step) → Turn g ql qh n z t al ah o u c st
+    → answer (st .out) ≡ refused 3 → ⊥
+turn-3 g ql qh n z t al ah o u c st cut·due q = let i : _≡_ {A = ℕ} 0 1 = cc in omega arith
+turn-3 g ql qh n z t al ah o u c st idles q = let i : _≡_ {A = ℕ} 0 1 = cc in omega arith
+turn-3 g ql qh n z t al ah o u c st (takes·up h) q = let i : _≡_ {A = ℕ} 0 1 = cc in omega arith
+turn-3 g ql qh n z t al ah o u c st (begins·high h w) q = way-3 g high _ _ st w q
+turn-3 g ql qh n z t al ah o u c st (begins·low h w) q = way-3 g low _ _ st w q
+turn-3 g ql qh n z t al ah o u c st (high·on w) q = way-3 g high _ _ st w q
+turn-3 g ql qh n z t al ah o u c st (low·on w) q = way-3 g low _ _ st w q
 
 next-3 : (g : Agreed) (e : Sending) → agreed (e .state .settings) ≡ g → inBounds g (e .state) ≡ true → answer (next e .out) ≡ refused 3 → ⊥
 unfolding next
@@ -97,7 +95,10 @@ next-3 g e ag b =
     rw (ag, b)
     (branch (λ (st : Step). answer (st .out) ≡ refused 3 → ⊥) (ltb (length (e .low)) (largestFrame g) || ltb (length (e .high)) (largestFrame g))
     (λ _ q. let n : _≡_ {A = ℕ} 2 3 = cc in omega arith)
-    (λ _. steps-3 g e (e .state .cut) (e .state .on)))
+    (λ _.
+    let s = e .state in
+    turn-3 g (s .low) (s .high) (s .left) (s .zeros) (s .settings) (e .low) (e .high) (s .on) (s .suspended) (s .cut) _
+    (turn g (s .low) (s .high) (s .left) (s .zeros) (s .settings) (e .low) (e .high) (s .on) (s .suspended) (s .cut))))
 
 load-3 : (g : Agreed) (l : Lane) (p : List ℕ) (s : Sender) (a : List ℕ) → agreed (s .settings) ≡ g → inBounds g s ≡ true
     → load l p s a .answer ≡ refused 3 → ⊥

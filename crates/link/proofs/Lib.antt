@@ -1,6 +1,10 @@
+-- Laws: what the proofs of the calls share (D, Area, ReceiverCases), and the theorems' (the others, in the order they rest on each other).
 pub mod Tests
+pub mod D
+pub mod Area
 pub mod Write
 pub mod ReceiverBounds
+pub mod ReceiverCases
 pub mod Follow
 pub mod Way
 pub mod SenderBounds

@@ -1,12 +1,11 @@
 -- The two ends in step after a flag: a call of the sender, and the receiver's call for the octet that it writes.
 -- Assumes nothing.
 use mathlib.Core.Path.{_≡_, refl, sym, ap, subst, subst₃, _∙_}
-use mathlib.Core.Bool.{Bool, true, false, cond, not, _||_}
+use mathlib.Core.Bool.{Bool, true, false, not, _||_}
 use mathlib.Core.List.{List}
 use mathlib.Core.Option.{Option, none, some}
 use Prim.Native.Nat.{ℕ, _+_, _≤_, _<_}
 use native.Mathlib.Omega.{arith}
-use borrow.Author.Tests.{ltb-true, not-false}
 use lib.Dec.{ltb}
 use lib.ListN.{length, drop, getD}
 use Rattle.fcs.specs.CheckSequence as check
@@ -16,11 +15,11 @@ use Rattle.cobs.proofs.Exchange.{no-flag, from-line, turned-back}
 use Rattle.cobs.proofs.Table.{numbers}
 use Rattle.link.specs.Agreed.{Agreed, largestFrame, mostDecoded}
 use Rattle.link.specs.Answers.{Answer, refused}
-use Rattle.link.specs.Sender.{Lane, low, high, OnLine, neither, sending, Queue, Out, closes, breaks, sends, nothing, refuses, Step, dataOf, loaded, inBounds, onward, takeLine, steps, next, put}
+use Rattle.link.specs.Sender.{Lane, low, high, OnLine, neither, sending, Queue, Out, closes, breaks, sends, nothing, refuses, Step, dataOf, loaded, inBounds, next, put}
 use Rattle.link.specs.Receiver.{Working, Receiving, Receive, work, putBack, inside, receive}
 use Rattle.link.specs.Runs.{Packet, Lanes, Station, inLane, marked, afterLoad, afterStep, afterNext, Arrives, Met}
 use Rattle.link.proofs.Tests.{true-false}
-use Rattle.link.proofs.Way.{Advance, last, more, covers, opens, Way, ends, cuts, warns, goes, way}
+use Rattle.link.proofs.Way.{Advance, last, more, covers, opens, Way, ends, cuts, warns, goes, sender, Turn, cut·due, idles, takes·up, begins·high, begins·low, high·on, low·on, turn}
 use Rattle.link.proofs.ReceiverBounds.{Ready, OfFrame, fit-work, receive-other, flag-ends, other-passes}
 use Rattle.link.proofs.Follow.{Follows, Moved, BlockAt, Holding, follows-back, keeps-holding, code-zero, code-some, code-two, data-last, data-more, reports, delivers-holding, breaks-held, breaks-holding, resumes, starts}
 use Rattle.link.proofs.SenderBounds as bounds
@@ -206,7 +205,7 @@ all-covered q a n z e h r fo =
 
 module _ (g : Agreed) (law : check.Sound (g .check)) (ql qh : Queue) (n z t : ℕ) (al ah : List ℕ) (bl bh : Option Packet) (e : Receiving) where
   -- steps 3 to 6 of the high lane
-  lock-high : (u : Bool) → (let s = bounds.sender ql qh n z (sending high) u false t in
+  lock-high : (u : Bool) → (let s = sender ql qh n z (sending high) u false t in
       let w = station s al ah bl bh in
       Sound g w → Lock g w e → (st : Step) → Way g high s (dataOf qh ah) st → Leads g (st .out) (w .lanes) (ql .position) (afterStep false w st) e)
   lock-high u s k st (ends over) =
@@ -239,7 +238,7 @@ module _ (g : Agreed) (law : check.Sound (g .check)) (ql qh : Queue) (n z t : �
       )
 
   -- of the low lane; only a packet begun after the chosen flag is followed
-  lock-low : (let s = bounds.sender ql qh n z (sending low) false false t in
+  lock-low : (let s = sender ql qh n z (sending low) false false t in
       let w = station s al ah bl bh in
       Sound g w → Lock g w e → (st : Step) → Way g low s (dataOf ql al) st → Leads g (st .out) (w .lanes) (ql .position) (afterStep false w st) e)
   lock-low s k st (ends over) =
@@ -304,39 +303,12 @@ module _ (g : Agreed) (law : check.Sound (g .check)) (ql qh : Queue) (n z t : �
       (resumes g e r (dataOf ql al) (ql .position) hd out (wait .pre)
       (omega (arith, wait .short, bounds.data-long g ql al (stock-fits g ql al bl st)))))
 
-  low-turn : (u : Bool) → 0 < ql .length → (let w = station (bounds.sender ql qh n z neither u false t) al ah bl bh in
-      let st = cond u (record { out = sends low 0xD1; state = bounds.sender ql qh n z (sending low) false false t })
-      (onward g low (bounds.sender ql qh n z (sending low) u false t) (dataOf ql al)) in
+  -- whichever step applies
+  lock-turn : (o : OnLine) (u c : Bool) (st : Step) → Turn g ql qh n z t al ah o u c st → (let w = station (sender ql qh n z o u c t) al ah bl bh in
       Sound g w → Lock g w e → Leads g (st .out) (w .lanes) (ql .position) (afterStep false w st) e)
-  low-turn true h s k =
-      let b = s .inside in (
-        met-sends g low 0xD1 bl (ql .position) e (k .ready) (λ q. omega arith),
-        record {
-          ready = other-passes g e 0xD1 (λ q. omega arith) (k .ready) .ready;
-          young = k .young;
-          along =
-              λ y.
-              takes-up (s .stock·low) (s .line .1) (k .along .1 (young-back bl y)) (b .line .0) (b .line .1) (k .ready) (k .along .0);
-        },
-      )
-  low-turn false h s k =
-      let b = s .inside in
-      lock-low (enter-low g false ql qh n z t al ah bl bh h s)
-      (record {
-        ready = k .ready;
-        young = k .young;
-        along = λ _. begins ql al (stock-fits g ql al bl (s .stock·low)) (s .line .1 .start) (b .line .0) (b .line .1) (k .ready) (k .along .0);
-      })
-      _ (way g (bounds.sender ql qh n z (sending low) false false t) (dataOf ql al) low)
-
-  lock-steps : (o : OnLine) (u c : Bool) → (let s = bounds.sender ql qh n z o u c t in
-      let w = station s al ah bl bh in
-      let st = steps g (record { state = s; low = al; high = ah }) c o in
-      Sound g w → Lock g w e → Leads g (st .out) (w .lanes) (ql .position) (afterStep false w st) e)
-  unfolding steps takeLine
-  lock-steps neither u true s k = true-false (s .inside .line .2)
-  lock-steps (sending high) u true s k = true-false (s .inside .line .1)
-  lock-steps (sending low) u true s k =
+  lock-turn neither u c st cut·due s k = true-false (s .inside .line .2)
+  lock-turn (sending high) u c st cut·due s k = true-false (s .inside .line .1)
+  lock-turn (sending low) u c st cut·due s k =
       let end = flag-ends g e (k .ready) in
       let wait : Waiting g ql = s .line .0 in (
         met-breaks g law ql al e (k .ready) bl 1 1 (s .stock·low) (s .inside .line .0 .loaded) (wait .pre) (omega arith) (k .along),
@@ -349,26 +321,29 @@ module _ (g : Agreed) (law : check.Sound (g .check)) (ql qh : Queue) (n z t : �
           );
         },
       )
-  lock-steps (sending low) true false s k = true-false (s .inside .line .1)
-  lock-steps (sending low) false false s k = lock-low s k _ (way g (bounds.sender ql qh n z (sending low) false false t) (dataOf ql al) low)
-  lock-steps (sending high) u false s k = lock-high u s k _ (way g (bounds.sender ql qh n z (sending high) u false t) (dataOf qh ah) high)
-  lock-steps neither u false s k =
+  lock-turn o u c st idles s k = k
+  lock-turn o u c st (takes·up h) s k =
+      let b = s .inside in (
+        met-sends g low 0xD1 bl (ql .position) e (k .ready) (λ q. omega arith),
+        record {
+          ready = other-passes g e 0xD1 (λ q. omega arith) (k .ready) .ready;
+          young = k .young;
+          along =
+              λ y.
+              takes-up (s .stock·low) (s .line .1) (k .along .1 (young-back bl y)) (b .line .0) (b .line .1) (k .ready) (k .along .0);
+        },
+      )
+  lock-turn o u c st (begins·high h w) s k =
       let b = s .inside in
-      let w = station (bounds.sender ql qh n z neither u false t) al ah bl bh in
-      let P : Step → Type 0 = λ st. Leads g (st .out) (w .lanes) (ql .position) (afterStep false w st) e in
-      branch P (loaded qh)
-      (λ f.
-      lock-high u (enter-high g false ql qh n z t al ah bl bh u (ltb-true 0 (qh .length) f) s)
-      (record {
-        ready = k .ready;
-        young = k .young;
-        along = (
-          begins qh ah (stock-fits g qh ah bh (s .stock·high)) (s .line .0 .start) (b .line .0) (b .line .1) (k .ready) (k .along .0),
-          k .along .1,
-        );
-      })
-      _ (way g (bounds.sender ql qh n z (sending high) u false t) (dataOf qh ah) high))
-      (λ _. branch P (not (loaded ql)) (λ _. k) (λ f. low-turn u (ltb-true 0 (ql .length) (not-false (loaded ql) f)) s k))
+      let fo = begins qh ah (stock-fits g qh ah bh (s .stock·high)) (s .line .0 .start) (b .line .0) (b .line .1) (k .ready) (k .along .0) in
+      lock-high u (enter-high g false ql qh n z t al ah bl bh u h s) (record { ready = k .ready; young = k .young; along = (fo, k .along .1) }) st w
+  lock-turn o u c st (begins·low h w) s k =
+      let b = s .inside in
+      let fo = begins ql al (stock-fits g ql al bl (s .stock·low)) (s .line .1 .start) (b .line .0) (b .line .1) (k .ready) (k .along .0) in
+      lock-low (enter-low g false ql qh n z t al ah bl bh h s) (record { ready = k .ready; young = k .young; along = λ _. fo }) st w
+  lock-turn o u c st (high·on w) s k = lock-high u s k st w
+  lock-turn o true c st (low·on w) s k = true-false (s .inside .line .1)
+  lock-turn o false c st (low·on w) s k = lock-low s k st w
 
 -- ---- the calls
 
@@ -383,18 +358,19 @@ lock-next g law w e s k =
     (branch P (ltb (length (d .low)) (largestFrame g) || ltb (length (d .high)) (largestFrame g)) (λ _. k)
     (λ _. branch P (not (inBounds g r)) (λ _. k)
     (λ _.
-    lock-steps g law (r .low) (r .high) (r .left) (r .zeros) (r .settings) (d .low) (d .high) (w .lanes .low) (w .lanes .high) e
-    (r .on) (r .suspended) (r .cut) s k)))
+    lock-turn g law (r .low) (r .high) (r .left) (r .zeros) (r .settings) (d .low) (d .high) (w .lanes .low) (w .lanes .high) e
+    (r .on) (r .suspended) (r .cut) _
+    (turn g (r .low) (r .high) (r .left) (r .zeros) (r .settings) (d .low) (d .high) (r .on) (r .suspended) (r .cut)) s k)))
 
 -- a load leaves the two ends in step
 module _ (q·p : Queue) (a·p : List ℕ) (b·p : Option Packet) (ql qh : Queue) (n z t : ℕ) (al ah : List ℕ) (bl bh : Option Packet) (e : Receiving) where
-  along-low : (o : OnLine) (u c : Bool) → bounds.LowOff o u c → Along o u c (station (bounds.sender ql qh n z o u c t) al ah bl bh) e
-      → Along o u c (station (bounds.sender q·p qh n z o u c t) a·p ah b·p bh) e
+  along-low : (o : OnLine) (u c : Bool) → bounds.LowOff o u c → Along o u c (station (sender ql qh n z o u c t) al ah bl bh) e
+      → Along o u c (station (sender q·p qh n z o u c t) a·p ah b·p bh) e
   along-low o u c bounds.low-off₁ k = k
   along-low o u c bounds.low-off₂ k = k
 
-  along-high : (o : OnLine) (u c : Bool) → bounds.HighOff o u c → Along o u c (station (bounds.sender ql qh n z o u c t) al ah bl bh) e
-      → Along o u c (station (bounds.sender ql q·p n z o u c t) al a·p bl b·p) e
+  along-high : (o : OnLine) (u c : Bool) → bounds.HighOff o u c → Along o u c (station (sender ql qh n z o u c t) al ah bl bh) e
+      → Along o u c (station (sender ql q·p n z o u c t) al a·p bl b·p) e
   along-high o u c bounds.high-off₁ k = k
   along-high o u c bounds.high-off₂ k = k
   along-high o u c bounds.high-off₃ k = k

@@ -1,11 +1,11 @@
 -- The sender's state stays in bounds, whatever its areas hold.
 -- Assumes nothing.
 use mathlib.Core.Path.{_≡_, refl, sym, ap, _∙_}
-use mathlib.Core.Bool.{Bool, true, false, cond, not, _&&_, _||_}
+use mathlib.Core.Bool.{Bool, true, false, not, _&&_, _||_}
 use mathlib.Core.List.{List, [], _∷_}
 use Prim.Native.Nat.{ℕ, _+_, _≤_, _<_}
 use native.Mathlib.Omega.{arith}
-use borrow.Author.Tests.{ltb-true, ltb-false, leb-true, eqb-true, eqb-false, lt-ltb, le-leb, eq-eqb, not-true, not-false}
+use borrow.Author.Tests.{ltb-true, ltb-false, leb-true, eqb-true, eqb-false, lt-ltb, le-leb, eq-eqb, not-true}
 use lib.Dec.{leb, ltb, eqb}
 use lib.ListN.{length, take, drop, length-append, length-drop}
 use lib.Seq.{length-take-le}
@@ -15,9 +15,9 @@ use Rattle.cobs.proofs.Table.{numbers}
 use Rattle.cobs.proofs.Chosen.{Stands, chosen-at}
 use Rattle.link.specs.Agreed.{Agreed, agreed, leastPacket, leastFrame, largestFrame}
 use Rattle.link.specs.Answers.{refused}
-use Rattle.link.specs.Sender.{Lane, low, high, OnLine, neither, sending, Queue, Sender, Sending, Step, Load, sends, queue, loaded, dataOf, area, queueOk, lineOk, blockOk, inBounds, put, load, cutOff, onward, takeLine, steps, next}
+use Rattle.link.specs.Sender.{Lane, low, high, OnLine, neither, sending, Queue, Sender, Sending, Step, Load, queue, loaded, dataOf, area, queueOk, lineOk, blockOk, inBounds, put, load, cutOff, next}
 use Rattle.link.proofs.Tests.{ands, true-false, false-true, or-left, or-right, or-cases}
-use Rattle.link.proofs.Way.{Advance, last, more, covers, opens, Way, ends, cuts, warns, goes, way}
+use Rattle.link.proofs.Way.{Advance, last, more, covers, opens, Way, ends, cuts, warns, goes, sender, Turn, cut·due, idles, takes·up, begins·high, begins·low, high·on, low·on, turn}
 use Rattle.link.proofs.Follow.{frame-long}
 
 -- ---- in bounds, as facts
@@ -194,10 +194,6 @@ module _ (g : Agreed) (q : Queue) (a : List ℕ) (fits : q .length ≤ length a)
 
 -- ---- every step keeps the bounds, and the settings
 
-abbrev pub sender : Queue → Queue → ℕ → ℕ → OnLine → Bool → Bool → ℕ → Sender
-sender ql qh n z o suspended cut t =
-    record { low = ql; high = qh; left = n; zeros = z; on = o; suspended = suspended; cut = cut; settings = t }
-
 pub record Kept (g : Agreed) (t : ℕ) (s : Sender) : Type 0 where
   pub settings : s .settings ≡ t
   pub bounds : Bounds g s
@@ -205,9 +201,11 @@ pub record Kept (g : Agreed) (t : ℕ) (s : Sender) : Type 0 where
 pub low-high : {Q : Type 0} → high ≡ low → Q
 low-high e = absurd (let z : _≡_ {A = ℕ} 0 1 = cc in omega arith)
 
-pub fits-area : (g : Agreed) (q : Queue) (a : List ℕ) → QueueOk g q → largestFrame g ≤ length a → q .length ≤ length a
-fits-area g q a h k =
-    decide (eqb (q .length) 0) (λ e. omega (arith, eqb-true (q .length) 0 e)) (λ e. omega (arith, h .size (eqb-false (q .length) 0 e) .1))
+pub most : (g : Agreed) (q : Queue) → QueueOk g q → q .length ≤ largestFrame g
+most g q h = decide (eqb (q .length) 0) (λ e. omega (arith, eqb-true (q .length) 0 e)) (λ e. h .size (eqb-false (q .length) 0 e) .1)
+
+fits-area : (g : Agreed) (q : Queue) (a : List ℕ) → QueueOk g q → largestFrame g ≤ length a → q .length ≤ length a
+fits-area g q a h k = omega (arith, most g q h)
 
 empty-ok : (g : Agreed) → QueueOk g (record { length = 0; position = 0 })
 empty-ok g = record { size = λ k. absurd (k refl); place = omega arith }
@@ -216,6 +214,12 @@ moved-ok : (g : Agreed) (q : Queue) (pos : ℕ) → QueueOk g q → pos ≤ q .l
 moved-ok g q pos h k = record { size = h .size; place = k }
 
 module _ (g : Agreed) (ql qh : Queue) (n z t : ℕ) where
+  -- the same numbers with another line and other marks
+  relined : {o : OnLine} {u c : Bool} (o′ : OnLine) (u′ c′ : Bool) → LineOk o′ ql qh n z u′ c′ → (u′ ≡ true → 0 < ql .length)
+      → Bounds g (sender ql qh n z o u c t) → Bounds g (sender ql qh n z o′ u′ c′ t)
+  relined o′ u′ c′ line waits b =
+      record { low = b .low; high = b .high; few = b .few; two = b .two; even = b .even; line = line; waits = waits }
+
   -- steps 3 to 6 of the high lane
   pub high-keeps : (u : Bool) (a : List ℕ) → qh .length ≤ length a → Bounds g (sender ql qh n z (sending high) u false t)
       → (st : Step) → Way g high (sender ql qh n z (sending high) u false t) (dataOf qh a) st → Kept g t (st .state)
@@ -285,19 +289,7 @@ module _ (g : Agreed) (ql qh : Queue) (n z t : ℕ) where
             };
       }
   low-keeps a fits b st (warns short e pre urgent f) =
-      record {
-        settings = refl;
-        bounds =
-            record {
-              low = b .low;
-              high = b .high;
-              few = b .few;
-              two = b .two;
-              even = b .even;
-              line = (b .line .0, refl, λ _. f);
-              waits = λ e. false-true e;
-            };
-      }
+      record { settings = refl; bounds = relined (sending low) false true (b .line .0, refl, λ _. f) (λ e. false-true e) b }
   low-keeps a fits b st (goes x pos n′ z′ short v) =
       let k = advance g ql a fits n z (record { room = b .line .0 .room; few = b .few; two = b .two; even = b .even }) short x pos n′ z′ v in
       record {
@@ -317,72 +309,34 @@ module _ (g : Agreed) (ql qh : Queue) (n z t : ℕ) where
   -- step 1
   pub cut-keeps : (u : Bool) → Bounds g (sender ql qh n z (sending low) u true t) → Kept g t (cutOff (sender ql qh n z (sending low) u true t) .state)
   cut-keeps u b =
-      record {
-        settings = refl;
-        bounds =
-            record {
-              low = b .low;
-              high = b .high;
-              few = b .few;
-              two = b .two;
-              even = b .even;
-              line = (b .line .2 refl, b .even (b .line .2 refl), refl);
-              waits = λ _. b .line .0 .loaded;
-            };
-      }
+      let none·left = b .line .2 refl in
+      record { settings = refl; bounds = relined neither true false (none·left, b .even none·left, refl) (λ _. b .line .0 .loaded) b }
 
   -- a lane comes on the line
   pub enter-high : (u : Bool) → 0 < qh .length → Bounds g (sender ql qh n z neither u false t) → Bounds g (sender ql qh n z (sending high) u false t)
   enter-high u h b =
-      record {
-        low = b .low;
-        high = b .high;
-        few = b .few;
-        two = b .two;
-        even = b .even;
-        line = (record { loaded = h; room = omega (arith, b .high .place, b .line .0, b .line .1) }, refl);
-        waits = b .waits;
-      }
+      relined (sending high) u false (record { loaded = h; room = omega (arith, b .high .place, b .line .0, b .line .1) }, refl) (b .waits) b
 
   pub enter-low : (u : Bool) → 0 < ql .length → Bounds g (sender ql qh n z neither u false t) → Bounds g (sender ql qh n z (sending low) false false t)
   enter-low u h b =
-      record {
-        low = b .low;
-        high = b .high;
-        few = b .few;
-        two = b .two;
-        even = b .even;
-        line = (record { loaded = h; room = omega (arith, b .low .place, b .line .0, b .line .1) }, refl, λ e. false-true e);
-        waits = λ e. false-true e;
-      }
+      relined (sending low) false false
+      (record { loaded = h; room = omega (arith, b .low .place, b .line .0, b .line .1) }, refl, λ e. false-true e)
+      (λ e. false-true e)
+      b
 
-  module _ (al ah : List ℕ) (hl : largestFrame g ≤ length al) (hh : largestFrame g ≤ length ah) where
-    low-turn : (u : Bool) → 0 < ql .length → Bounds g (sender ql qh n z neither u false t)
-        → Kept g t (cond u (record { out = sends low 0xD1; state = sender ql qh n z (sending low) false false t })
-        (onward g low (sender ql qh n z (sending low) u false t) (dataOf ql al)) .state)
-    low-turn true h b = record { settings = refl; bounds = enter-low true h b }
-    low-turn false h b =
-        low-keeps al (fits-area g ql al (b .low) hl) (enter-low false h b) _ (way g (sender ql qh n z (sending low) false false t) (dataOf ql al) low)
-
-    pub steps-keep : (o : OnLine) (u c : Bool) → Bounds g (sender ql qh n z o u c t)
-        → Kept g t (steps g (record { state = sender ql qh n z o u c t; low = al; high = ah }) c o .state)
-    unfolding steps takeLine
-    steps-keep neither u true b = true-false (b .line .2)
-    steps-keep (sending high) u true b = true-false (b .line .1)
-    steps-keep (sending low) u true b = cut-keeps u b
-    steps-keep (sending low) true false b = true-false (b .line .1)
-    steps-keep (sending low) false false b =
-        low-keeps al (fits-area g ql al (b .low) hl) b _ (way g (sender ql qh n z (sending low) false false t) (dataOf ql al) low)
-    steps-keep (sending high) u false b =
-        high-keeps u ah (fits-area g qh ah (b .high) hh) b _ (way g (sender ql qh n z (sending high) u false t) (dataOf qh ah) high)
-    steps-keep neither u false b =
-        let P : Step → Type 0 = λ st. Kept g t (st .state) in
-        branch P (loaded qh)
-        (λ e.
-        high-keeps u ah (fits-area g qh ah (b .high) hh) (enter-high u (ltb-true 0 (qh .length) e) b) _
-        (way g (sender ql qh n z (sending high) u false t) (dataOf qh ah) high))
-        (λ _. branch P (not (loaded ql)) (λ _. record { settings = refl; bounds = b })
-        (λ f. low-turn u (ltb-true 0 (ql .length) (not-false (loaded ql) f)) b))
+  -- whichever step applies
+  turn-keeps : (al ah : List ℕ) → largestFrame g ≤ length al → largestFrame g ≤ length ah → (o : OnLine) (u c : Bool) (st : Step)
+      → Turn g ql qh n z t al ah o u c st → Bounds g (sender ql qh n z o u c t) → Kept g t (st .state)
+  turn-keeps al ah hl hh neither u c st cut·due b = true-false (b .line .2)
+  turn-keeps al ah hl hh (sending high) u c st cut·due b = true-false (b .line .1)
+  turn-keeps al ah hl hh (sending low) u c st cut·due b = cut-keeps u b
+  turn-keeps al ah hl hh o u c st idles b = record { settings = refl; bounds = b }
+  turn-keeps al ah hl hh o u c st (takes·up h) b = record { settings = refl; bounds = enter-low true h b }
+  turn-keeps al ah hl hh o u c st (begins·high h w) b = high-keeps u ah (fits-area g qh ah (b .high) hh) (enter-high u h b) st w
+  turn-keeps al ah hl hh o u c st (begins·low h w) b = low-keeps al (fits-area g ql al (b .low) hl) (enter-low false h b) st w
+  turn-keeps al ah hl hh o u c st (high·on w) b = high-keeps u ah (fits-area g qh ah (b .high) hh) b st w
+  turn-keeps al ah hl hh o true c st (low·on w) b = true-false (b .line .1)
+  turn-keeps al ah hl hh o false c st (low·on w) b = low-keeps al (fits-area g ql al (b .low) hl) b st w
 
 -- next octet
 pub next-keeps : (g : Agreed) (e : Sending) → agreed (e .state .settings) ≡ g → Bounds g (e .state) → Kept g (e .state .settings) (next e .state)
@@ -395,10 +349,11 @@ next-keeps g e ag b =
     (branch P short (λ _. record { settings = refl; bounds = b })
     (λ k. branch P (not (inBounds g s)) (λ _. record { settings = refl; bounds = b })
     (λ _.
-    steps-keep g (s .low) (s .high) (s .left) (s .zeros) (s .settings) (e .low) (e .high)
+    turn-keeps g (s .low) (s .high) (s .left) (s .zeros) (s .settings) (e .low) (e .high)
     (ltb-false (length (e .low)) (largestFrame g) (or-left (ltb (length (e .low)) (largestFrame g)) (ltb (length (e .high)) (largestFrame g)) k))
     (ltb-false (length (e .high)) (largestFrame g) (or-right (ltb (length (e .low)) (largestFrame g)) (ltb (length (e .high)) (largestFrame g)) k))
-    (s .on) (s .suspended) (s .cut) b)))
+    (s .on) (s .suspended) (s .cut) _
+    (turn g (s .low) (s .high) (s .left) (s .zeros) (s .settings) (e .low) (e .high) (s .on) (s .suspended) (s .cut)) b)))
 
 -- ---- a lane that holds nothing is neither on the line nor suspended
 

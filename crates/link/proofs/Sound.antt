@@ -2,22 +2,21 @@
 -- block on the line stands in D.
 -- Assumes nothing.
 use mathlib.Core.Path.{_≡_, refl, sym, ap, _∙_}
-use mathlib.Core.Bool.{Bool, true, false, cond, not, _||_}
+use mathlib.Core.Bool.{Bool, true, false, not, _||_}
 use mathlib.Core.List.{List, [], _∷_, _++_}
 use mathlib.Core.Option.{Option, none, some}
 use Prim.Native.Nat.{ℕ, _+_, _≤_, _<_}
 use native.Mathlib.Omega.{arith}
-use borrow.Author.Tests.{ltb-true, not-false}
 use lib.Dec.{ltb}
 use lib.ListN.{length, take, drop, getD, length-take}
 use lib.Seq.{getD-drop, take-append-seam}
 use Rattle.cobs.specs.CodeBlocks.{frame}
 use Rattle.cobs.proofs.Tests.{branch}
 use Rattle.link.specs.Agreed.{Agreed, agreed, leastPacket, largestFrame}
-use Rattle.link.specs.Sender.{Lane, low, high, OnLine, neither, sending, Queue, Sender, sends, Step, area, dataOf, loaded, inBounds, onward, takeLine, steps, next, put}
+use Rattle.link.specs.Sender.{Lane, low, high, OnLine, neither, sending, Queue, Sender, Step, area, dataOf, inBounds, next, put}
 use Rattle.link.specs.Runs.{Packet, Station, opened, marked, loadedBy, afterLoad, afterStep, afterNext, run, Call, loading, nextOctet}
 use Rattle.link.proofs.Tests.{true-false, false-true}
-use Rattle.link.proofs.Way.{Advance, last, more, covers, opens, Way, ends, cuts, warns, goes, way}
+use Rattle.link.proofs.Way.{Advance, last, more, covers, opens, Way, ends, cuts, warns, goes, sender, Turn, cut·due, idles, takes·up, begins·high, begins·low, high·on, low·on, turn}
 use Rattle.link.proofs.Follow.{BlockAt}
 use Rattle.link.proofs.SenderBounds as bounds
 
@@ -110,9 +109,9 @@ module _ (g : Agreed) (q : Queue) (a : List ℕ) (n z : ℕ) (fits : q .length �
 
 module _ (g : Agreed) (early : Bool) (ql qh : Queue) (n z t : ℕ) (al ah : List ℕ) (bl bh : Option Packet) where
   -- steps 3 to 6 of the high lane
-  pub sound-high : (u : Bool) → Sound g (station (bounds.sender ql qh n z (sending high) u false t) al ah bl bh)
-      → (st : Step) → Way g high (bounds.sender ql qh n z (sending high) u false t) (dataOf qh ah) st
-      → Sound g (afterStep early (station (bounds.sender ql qh n z (sending high) u false t) al ah bl bh) st)
+  pub sound-high : (u : Bool) → Sound g (station (sender ql qh n z (sending high) u false t) al ah bl bh)
+      → (st : Step) → Way g high (sender ql qh n z (sending high) u false t) (dataOf qh ah) st
+      → Sound g (afterStep early (station (sender ql qh n z (sending high) u false t) al ah bl bh) st)
   sound-high u s st (ends over) =
       let k = bounds.high-keeps g ql qh n z t u ah (stock-fits g qh ah bh (s .stock·high)) (s .inside) st (ends over) in
       record {
@@ -136,9 +135,9 @@ module _ (g : Agreed) (early : Bool) (ql qh : Queue) (n z t : ℕ) (al ah : List
       }
 
   -- of the low lane
-  pub sound-low : Sound g (station (bounds.sender ql qh n z (sending low) false false t) al ah bl bh)
-      → (st : Step) → Way g low (bounds.sender ql qh n z (sending low) false false t) (dataOf ql al) st
-      → Sound g (afterStep early (station (bounds.sender ql qh n z (sending low) false false t) al ah bl bh) st)
+  pub sound-low : Sound g (station (sender ql qh n z (sending low) false false t) al ah bl bh)
+      → (st : Step) → Way g low (sender ql qh n z (sending low) false false t) (dataOf ql al) st
+      → Sound g (afterStep early (station (sender ql qh n z (sending low) false false t) al ah bl bh) st)
   sound-low s st (ends over) =
       let k = bounds.low-keeps g ql qh n z t al (stock-fits g ql al bl (s .stock·low)) (s .inside) st (ends over) in
       record {
@@ -178,8 +177,8 @@ module _ (g : Agreed) (early : Bool) (ql qh : Queue) (n z t : ℕ) (al ah : List
       }
 
   -- a lane comes on the line
-  pub enter-high : (u : Bool) → 0 < qh .length → Sound g (station (bounds.sender ql qh n z neither u false t) al ah bl bh)
-      → Sound g (station (bounds.sender ql qh n z (sending high) u false t) al ah bl bh)
+  pub enter-high : (u : Bool) → 0 < qh .length → Sound g (station (sender ql qh n z neither u false t) al ah bl bh)
+      → Sound g (station (sender ql qh n z (sending high) u false t) al ah bl bh)
   enter-high u h s =
       record {
         agrees = s .agrees;
@@ -189,8 +188,8 @@ module _ (g : Agreed) (early : Bool) (ql qh : Queue) (n z t : ℕ) (al ah : List
         line = (block-0 (dataOf qh ah) (qh .position) n z (s .inside .line .0) (s .inside .line .1), s .line .1);
       }
 
-  pub enter-low : 0 < ql .length → Sound g (station (bounds.sender ql qh n z neither false false t) al ah bl bh)
-      → Sound g (station (bounds.sender ql qh n z (sending low) false false t) al ah bl bh)
+  pub enter-low : 0 < ql .length → Sound g (station (sender ql qh n z neither false false t) al ah bl bh)
+      → Sound g (station (sender ql qh n z (sending low) false false t) al ah bl bh)
   enter-low h s =
       record {
         agrees = s .agrees;
@@ -200,28 +199,12 @@ module _ (g : Agreed) (early : Bool) (ql qh : Queue) (n z t : ℕ) (al ah : List
         line = (block-0 (dataOf ql al) (ql .position) n z (s .inside .line .0) (s .inside .line .1), s .line .0);
       }
 
-  low-turn : (u : Bool) → 0 < ql .length → Sound g (station (bounds.sender ql qh n z neither u false t) al ah bl bh)
-      → Sound g (afterStep early (station (bounds.sender ql qh n z neither u false t) al ah bl bh)
-      (cond u (record { out = sends low 0xD1; state = bounds.sender ql qh n z (sending low) false false t })
-      (onward g low (bounds.sender ql qh n z (sending low) u false t) (dataOf ql al))))
-  low-turn true h s =
-      record {
-        agrees = s .agrees;
-        inside = bounds.enter-low g ql qh n z t true h (s .inside);
-        stock·low = stock-marked g ql ql al early bl refl (s .stock·low);
-        stock·high = s .stock·high;
-        line = (block-0 (dataOf ql al) (ql .position) n z (s .inside .line .0) (s .inside .line .1), s .line .0);
-      }
-  low-turn false h s =
-      sound-low (enter-low h s) _ (way g (bounds.sender ql qh n z (sending low) false false t) (dataOf ql al) low)
-
-  sound-steps : (o : OnLine) (u c : Bool) → Sound g (station (bounds.sender ql qh n z o u c t) al ah bl bh)
-      → Sound g (afterStep early (station (bounds.sender ql qh n z o u c t) al ah bl bh)
-      (steps g (record { state = bounds.sender ql qh n z o u c t; low = al; high = ah }) c o))
-  unfolding steps takeLine
-  sound-steps neither u true s = true-false (s .inside .line .2)
-  sound-steps (sending high) u true s = true-false (s .inside .line .1)
-  sound-steps (sending low) u true s =
+  -- whichever step applies
+  sound-turn : (o : OnLine) (u c : Bool) (st : Step) → Turn g ql qh n z t al ah o u c st → Sound g (station (sender ql qh n z o u c t) al ah bl bh)
+      → Sound g (afterStep early (station (sender ql qh n z o u c t) al ah bl bh) st)
+  sound-turn neither u c st cut·due s = true-false (s .inside .line .2)
+  sound-turn (sending high) u c st cut·due s = true-false (s .inside .line .1)
+  sound-turn (sending low) u c st cut·due s =
       record {
         agrees = s .agrees;
         inside = bounds.cut-keeps g ql qh n z t u (s .inside) .bounds;
@@ -229,16 +212,20 @@ module _ (g : Agreed) (early : Bool) (ql qh : Queue) (n z t : ℕ) (al ah : List
         stock·high = s .stock·high;
         line = (s .line .1, s .line .0);
       }
-  sound-steps (sending low) true false s = true-false (s .inside .line .1)
-  sound-steps (sending low) false false s = sound-low s _ (way g (bounds.sender ql qh n z (sending low) false false t) (dataOf ql al) low)
-  sound-steps (sending high) u false s = sound-high u s _ (way g (bounds.sender ql qh n z (sending high) u false t) (dataOf qh ah) high)
-  sound-steps neither u false s =
-      let w = station (bounds.sender ql qh n z neither u false t) al ah bl bh in
-      branch (λ st. Sound g (afterStep early w st)) (loaded qh)
-      (λ e.
-      sound-high u (enter-high u (ltb-true 0 (qh .length) e) s) _ (way g (bounds.sender ql qh n z (sending high) u false t) (dataOf qh ah) high))
-      (λ _. branch (λ st. Sound g (afterStep early w st)) (not (loaded ql)) (λ _. s)
-      (λ f. low-turn u (ltb-true 0 (ql .length) (not-false (loaded ql) f)) s))
+  sound-turn o u c st idles s = s
+  sound-turn o u c st (takes·up h) s =
+      record {
+        agrees = s .agrees;
+        inside = bounds.enter-low g ql qh n z t true h (s .inside);
+        stock·low = stock-marked g ql ql al early bl refl (s .stock·low);
+        stock·high = s .stock·high;
+        line = (block-0 (dataOf ql al) (ql .position) n z (s .inside .line .0) (s .inside .line .1), s .line .0);
+      }
+  sound-turn o u c st (begins·high h w) s = sound-high u (enter-high u h s) st w
+  sound-turn o u c st (begins·low h w) s = sound-low (enter-low h s) st w
+  sound-turn o u c st (high·on w) s = sound-high u s st w
+  sound-turn o true c st (low·on w) s = true-false (s .inside .line .1)
+  sound-turn o false c st (low·on w) s = sound-low s st w
 
 -- ---- the calls
 
@@ -252,8 +239,9 @@ sound-next g early w s =
     (branch P (ltb (length (e .low)) (largestFrame g) || ltb (length (e .high)) (largestFrame g)) (λ _. s)
     (λ _. branch P (not (inBounds g r)) (λ _. s)
     (λ _.
-    sound-steps g early (r .low) (r .high) (r .left) (r .zeros) (r .settings) (e .low) (e .high) (w .lanes .low) (w .lanes .high)
-    (r .on) (r .suspended) (r .cut) s)))
+    sound-turn g early (r .low) (r .high) (r .left) (r .zeros) (r .settings) (e .low) (e .high) (w .lanes .low) (w .lanes .high)
+    (r .on) (r .suspended) (r .cut) _
+    (turn g (r .low) (r .high) (r .left) (r .zeros) (r .settings) (e .low) (e .high) (r .on) (r .suspended) (r .cut)) s)))
 
 -- a load
 pub loaded-stock : (g : Agreed) (p a : List ℕ) → leastPacket ≤ length p
@@ -268,13 +256,13 @@ module _ (g : Agreed) (p : List ℕ) (ql qh : Queue) (n z t : ℕ) (al ah : List
   abbrev a·p : List ℕ → List ℕ
   a·p a = frame (g .check) p ++ drop (length (frame (g .check) p)) a
 
-  line-low : (o : OnLine) (u c : Bool) → bounds.LowOff o u c → Line g o u c (station (bounds.sender ql qh n z o u c t) al ah bl bh)
-      → Line g o u c (station (bounds.sender (bounds.q·p g p) qh n z o u c t) (a·p al) ah b·p bh)
+  line-low : (o : OnLine) (u c : Bool) → bounds.LowOff o u c → Line g o u c (station (sender ql qh n z o u c t) al ah bl bh)
+      → Line g o u c (station (sender (bounds.q·p g p) qh n z o u c t) (a·p al) ah b·p bh)
   line-low o u c bounds.low-off₁ l = (l .0, record { start = refl; young = refl })
   line-low o u c bounds.low-off₂ l = (l .0, record { start = refl; young = refl })
 
-  line-high : (o : OnLine) (u c : Bool) → bounds.HighOff o u c → Line g o u c (station (bounds.sender ql qh n z o u c t) al ah bl bh)
-      → Line g o u c (station (bounds.sender ql (bounds.q·p g p) n z o u c t) al (a·p ah) bl b·p)
+  line-high : (o : OnLine) (u c : Bool) → bounds.HighOff o u c → Line g o u c (station (sender ql qh n z o u c t) al ah bl bh)
+      → Line g o u c (station (sender ql (bounds.q·p g p) n z o u c t) al (a·p ah) bl b·p)
   line-high o u c bounds.high-off₁ l = (record { start = refl; young = refl }, l .1)
   line-high o u c bounds.high-off₂ l = (l .0, record { start = refl; young = refl })
   line-high o u c bounds.high-off₃ l = (l .0, record { start = refl; young = refl })

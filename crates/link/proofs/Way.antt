@@ -1,17 +1,18 @@
--- The ways that steps 3 to 6 go, one for each kind of octet: proofs go by these, and not by the tests that chose them.
+-- What next octet can do, one case for each kind of octet: proofs go by these, and not by the tests that chose them. Only this file
+-- looks at the tests.
 -- Assumes nothing.
 use mathlib.Core.Path.{_≡_, refl}
-use mathlib.Core.Bool.{Bool, true, _&&_}
+use mathlib.Core.Bool.{Bool, true, false, cond, not, _&&_}
 use mathlib.Core.List.{List}
 use Prim.Native.Nat.{ℕ, _+_, _-_, _≤_, _<_}
 use native.Mathlib.Omega.{arith}
-use borrow.Author.Tests.{ltb-true, ltb-false, eqb-true, eqb-false}
+use borrow.Author.Tests.{ltb-true, ltb-false, eqb-true, eqb-false, not-false}
 use lib.Dec.{ltb, eqb}
 use lib.ListN.{drop, getD}
 use Rattle.cobs.specs.CodeBlocks.{toLine, choice}
 use Rattle.cobs.proofs.Tests.{branch, and-left, and-right}
 use Rattle.link.specs.Agreed.{Agreed}
-use Rattle.link.specs.Sender.{neither, Lane, low, high, Sender, Step, closes, breaks, sends, empty, queue, loaded, inLane, block, onLine, marks, isLow, breakOff, sendData, sendCode, onward}
+use Rattle.link.specs.Sender.{Lane, low, high, OnLine, neither, sending, Queue, Sender, Step, closes, breaks, sends, nothing, empty, queue, loaded, dataOf, inLane, block, onLine, marks, isLow, cutOff, breakOff, sendData, sendCode, onward, takeLine, steps}
 use Rattle.link.proofs.Tests.{false-true}
 
 -- An octet of D, with n data octets left and z zeros due: the octet, and position, data left and zeros due behind it. The last data
@@ -81,3 +82,41 @@ module _ (g : Agreed) (s : Sender) (d : List ℕ) where
       (λ f. warns short is pre urgent (omega (arith, ltb-false 0 (s .left) f))))
       (λ _. branch (Way g l s d) (ltb 0 (s .left)) (λ f. way-data l short (ltb-true 0 (s .left) f))
       (λ f. way-code l short (omega (arith, ltb-false 0 (s .left) f)))))
+
+-- ---- the first step that applies
+
+-- a sender by its parts
+abbrev pub sender : Queue → Queue → ℕ → ℕ → OnLine → Bool → Bool → ℕ → Sender
+sender ql qh n z o suspended cut t =
+    record { low = ql; high = qh; left = n; zeros = z; on = o; suspended = suspended; cut = cut; settings = t }
+
+module _ (g : Agreed) (ql qh : Queue) (n z t : ℕ) (al ah : List ℕ) where
+  -- By the lane on the line and the marks *suspended* and *cut due*: the cut; nothing; D1; a lane begins; a lane goes on.
+  pub data Turn : OnLine → Bool → Bool → Step → Type 0 where
+    cut·due : {o : OnLine} {u : Bool} → Turn o u true (cutOff (sender ql qh n z o u true t))
+    idles : {o : OnLine} {u : Bool} → Turn o u false (record { out = nothing; state = sender ql qh n z o u false t })
+    takes·up : 0 < ql .length → Turn neither true false (record { out = sends low 0xD1; state = sender ql qh n z (sending low) false false t })
+    begins·high : {u : Bool} {st : Step} → 0 < qh .length → Way g high (sender ql qh n z (sending high) u false t) (dataOf qh ah) st
+        → Turn neither u false st
+    begins·low : {st : Step} → 0 < ql .length → Way g low (sender ql qh n z (sending low) false false t) (dataOf ql al) st
+        → Turn neither false false st
+    high·on : {u : Bool} {st : Step} → Way g high (sender ql qh n z (sending high) u false t) (dataOf qh ah) st → Turn (sending high) u false st
+    low·on : {u : Bool} {st : Step} → Way g low (sender ql qh n z (sending low) u false t) (dataOf ql al) st → Turn (sending low) u false st
+
+  low-turn : (u : Bool) → 0 < ql .length
+      → Turn neither u false
+      (cond u (record { out = sends low 0xD1; state = sender ql qh n z (sending low) false false t })
+      (onward g low (sender ql qh n z (sending low) u false t) (dataOf ql al)))
+  low-turn true h = takes·up h
+  low-turn false h = begins·low h (way g (sender ql qh n z (sending low) false false t) (dataOf ql al) low)
+
+  pub turn : (o : OnLine) (u c : Bool) → Turn o u c (steps g (record { state = sender ql qh n z o u c t; low = al; high = ah }) c o)
+  unfolding steps takeLine
+  turn o u true = cut·due
+  turn (sending high) u false = high·on (way g (sender ql qh n z (sending high) u false t) (dataOf qh ah) high)
+  turn (sending low) u false = low·on (way g (sender ql qh n z (sending low) u false t) (dataOf ql al) low)
+  turn neither u false =
+      branch (Turn neither u false) (loaded qh)
+      (λ e. begins·high (ltb-true 0 (qh .length) e) (way g (sender ql qh n z (sending high) u false t) (dataOf qh ah) high))
+      (λ _. branch (Turn neither u false) (not (loaded ql)) (λ _. idles)
+      (λ f. low-turn u (ltb-true 0 (ql .length) (not-false (loaded ql) f))))

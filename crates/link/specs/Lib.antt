@@ -2,6 +2,7 @@
 pub mod Agreed
 pub mod Answers
 pub mod Sender
+pub mod SenderParts
 pub mod Receiver
 pub mod Runs
 pub mod Demands

@@ -1,6 +1,14 @@
 // The sender (document 01, "Sender").
 ghost use mathlib.Core.Path.{_≡_};
-ghost use Rattle.link.specs.Sender.{opened};
+ghost use mathlib.Core.Bool.{true};
+ghost use mathlib.Core.List.{_++_};
+ghost use Prim.Native.Nat.{ℕ, _+_, _<_, _≤_};
+ghost use lib.ListN.{length, drop, getD};
+ghost use Rattle.cobs.specs.CodeBlocks.{choice};
+ghost use Rattle.link.specs.Agreed.{agreed};
+ghost use Rattle.link.specs.Answers.{loadAnswer, nextAnswer};
+ghost use Rattle.link.specs.Sender.{opened, queue, dataOf, inLane, move, block, onLine, queueOk, blockOk, lineOk, inBounds, put, load, cutOff, close, breakOff, sendData, sendCode, isLow, onward, takeLine, steps, next, seen};
+ghost use Rattle.link.specs.SenderParts.{Ready};
 
 // A lane is document 01's word for one of the sender's two places for a packet.
 pub enum Lane {
@@ -72,5 +80,387 @@ pub fn open(settings: u8) -> Sender
         suspended: false,
         cut: false,
         settings,
+    }
+}
+
+// The packet's octets at the area's start.
+fn copy(packet: &[u8], area: &mut [u8])
+    requires { ⌜ length (now packet) ≤ length (now area) ⌝ }
+    ensures { λ r. ⌜ now (area .exit) ≡ now (packet .entry) ++ drop (length (now (packet .entry))) (now (area .entry)) ⌝ }
+{
+    let mut i = 0;
+    while i < packet.len() {
+        area[i] = packet[i];
+        i += 1;
+    }
+}
+
+impl Lane {
+    fn is_low(self) -> bool
+        ensures { λ r. ⌜ r ≡ isLow self ⌝ }
+    {
+        match self {
+            Lane::Low => true,
+            Lane::High => false,
+        }
+    }
+}
+
+impl Queue {
+    // An empty lane or a frame of an allowed length, and a position no further than behind D. The limits are the same for all settings.
+    fn in_bounds(self) -> bool
+        ensures { λ r. ⌜ ((settings : ℕ) → r ≡ queueOk (agreed settings) self) ⌝ }
+    {
+        let length = self.length as usize;
+        let position = self.position as usize;
+        ((length == 0) | (crate::LEAST_FRAME <= length) & (length <= crate::LARGEST_FRAME))
+            & (position <= length + 1)
+    }
+
+    // The octet of D at the position; behind the frame stands the phantom.
+    fn octet(self, area: &[u8]) -> u8
+        requires { ⌜ self .length ≤ length (now area) ⌝ }
+        ensures { λ r. ⌜ r ≡ getD (dataOf self (now (area .entry))) (self .position) 0 ⌝ }
+    {
+        let position = self.position as usize;
+        if position < self.length as usize {
+            return area[position];
+        }
+        0
+    }
+
+    // The code of the next block, and what it covers.
+    fn choose(self, area: &[u8], zxe: bool) -> cobs::Choice
+        requires { ⌜ (self .position ≤ self .length) × (self .length ≤ length (now area)) ⌝ }
+        ensures { λ r. ⌜ r ≡ choice zxe (drop (self .position) (dataOf self (now (area .entry)))) ⌝ }
+    {
+        let position = self.position as usize;
+        let length = self.length as usize;
+        cobs::choose(&area[position..length], zxe)
+    }
+}
+
+impl Sender {
+    fn queue(self, lane: Lane) -> Queue
+        ensures { λ r. ⌜ r ≡ queue lane self ⌝ }
+    {
+        match lane {
+            Lane::Low => self.low,
+            Lane::High => self.high,
+        }
+    }
+
+    fn with_queue(self, lane: Lane, q: Queue) -> Sender
+        ensures { λ r. ⌜ r ≡ inLane lane q self ⌝ }
+    {
+        let mut changed = self;
+        match lane {
+            Lane::Low => {
+                changed.low = q;
+            }
+            Lane::High => {
+                changed.high = q;
+            }
+        }
+        changed
+    }
+
+    // n more octets of a lane's D are covered.
+    fn move_on(self, n: u8, lane: Lane) -> Sender
+        requires { ⌜ queue lane self .position + n < 65536 ⌝ }
+        ensures { λ r. ⌜ r ≡ move n lane self ⌝ }
+    {
+        let mut q = self.queue(lane);
+        q.position = q.position + n as u16;
+        self.with_queue(lane, q)
+    }
+
+    // Data octets left in the block, and zeros due after them.
+    fn with_block(self, left: u8, zeros: u8) -> Sender
+        ensures { λ r. ⌜ r ≡ block left zeros self ⌝ }
+    {
+        let mut changed = self;
+        changed.left = left;
+        changed.zeros = zeros;
+        changed
+    }
+
+    // Another lane on the line, or none.
+    fn with_line(self, on: OnLine) -> Sender
+        ensures { λ r. ⌜ r ≡ onLine on self ⌝ }
+    {
+        let low = self.low;
+        let high = self.high;
+        Sender {
+            low,
+            high,
+            left: self.left,
+            zeros: self.zeros,
+            on,
+            suspended: self.suspended,
+            cut: self.cut,
+            settings: self.settings,
+        }
+    }
+
+    // The lane on the line is not empty, and its block is inside D.
+    fn block_in_bounds(self, q: Queue) -> bool
+        ensures { λ r. ⌜ r ≡ blockOk q self ⌝ }
+    {
+        (0 < q.length)
+            & (q.position as usize + self.left as usize + self.zeros as usize
+                <= q.length as usize + 1)
+    }
+
+    // With the line free nothing is left or due; low is not suspended while it sends; only low can have a cut due, and then its block has no
+    // data left.
+    fn line_in_bounds(self) -> bool
+        ensures { λ r. ⌜ r ≡ lineOk (self .on) self ⌝ }
+    {
+        let on = self.on;
+        let low = self.low;
+        let high = self.high;
+        match on {
+            OnLine::Neither => (self.left == 0) & (self.zeros == 0) & !self.cut,
+            OnLine::Sends(lane) => {
+                match lane {
+                    Lane::Low => self.block_in_bounds(low)
+                        & !self.suspended
+                        & (!self.cut | (self.left == 0)),
+                    Lane::High => self.block_in_bounds(high) & !self.cut,
+                }
+            }
+        }
+    }
+
+    // The refusal table's last paragraph.
+    fn in_bounds(self) -> bool
+        ensures { λ r. ⌜ r ≡ inBounds (agreed (self .settings)) self ⌝ }
+    {
+        let low = self.low;
+        let high = self.high;
+        low.in_bounds()
+            & high.in_bounds()
+            & (self.left <= 207)
+            & (self.zeros <= 2)
+            & ((0 < self.left) | (self.zeros == 0))
+            & self.line_in_bounds()
+            & (!self.suspended | (0 < low.length))
+    }
+
+    fn load_refused(self, n: u8) -> Loaded
+        ensures { λ r. ⌜ r ≡ record { state = self; answer = LoadAnswer.Refused n } ⌝ }
+    {
+        Loaded {
+            state: self,
+            answer: LoadAnswer::Refused(n),
+        }
+    }
+
+    // The frame over the area's first octets, what lies behind it untouched; the lane stands at its beginning.
+    fn put(self, lane: Lane, packet: &[u8], area: &mut [u8]) -> Loaded
+        requires { ⌜ (length (now packet) ≤ 2048) × (2050 ≤ length (now area)) ⌝ }
+        ensures { λ r. ⌜ record { answer = loadAnswer (r .answer); state = r .state; area = now (area .exit) }
+            ≡ put (agreed (self .settings)) lane (now (packet .entry)) self (now (area .entry)) ⌝ }
+    {
+        let n = packet.len();
+        copy(packet, area);
+        let fcs = fcs::fcs16(packet);
+        area[n] = fcs[0];
+        area[n + 1] = fcs[1];
+        let q = Queue {
+            length: (n + crate::FCS_OCTETS) as u16,
+            position: 0,
+        };
+        Loaded {
+            state: self.with_queue(lane, q),
+            answer: LoadAnswer::Done,
+        }
+    }
+
+    // Load: refusals 2, 3, 4 and 1, in this order.
+    pub fn load(self, lane: Lane, packet: &[u8], area: &mut [u8]) -> Loaded
+        ensures { λ r. ⌜ record { answer = loadAnswer (r .answer); state = r .state; area = now (area .exit) }
+            ≡ load lane (now (packet .entry)) self (now (area .entry)) ⌝ }
+    {
+        if area.len() < crate::LARGEST_FRAME {
+            return self.load_refused(2);
+        }
+        if !self.in_bounds() {
+            return self.load_refused(3);
+        }
+        let held = self.queue(lane).length;
+        if 0 < held {
+            return self.load_refused(4);
+        }
+        if (packet.len() < crate::LEAST_PACKET) | (crate::LARGEST_PACKET < packet.len()) {
+            return self.load_refused(1);
+        }
+        self.put(lane, packet, area)
+    }
+
+    fn next_refused(self, n: u8) -> Sent
+        ensures { λ r. ⌜ r ≡ record { state = self; answer = NextAnswer.Refused n } ⌝ }
+    {
+        Sent {
+            state: self,
+            answer: NextAnswer::Refused(n),
+        }
+    }
+
+    fn sent(self, octet: u8) -> Sent
+        ensures { λ r. ⌜ r ≡ record { state = self; answer = NextAnswer.Octet octet } ⌝ }
+    {
+        Sent {
+            state: self,
+            answer: NextAnswer::Octet(octet),
+        }
+    }
+
+    // Step 1: the flag that was due. It leaves low suspended and the line free.
+    fn cut_off(self) -> Sent
+        ensures { λ r. ⌜ record { answer = nextAnswer (r .answer); state = r .state } ≡ seen (cutOff self) ⌝ }
+    {
+        let mut off = self.with_line(OnLine::Neither);
+        off.suspended = true;
+        off.cut = false;
+        off.sent(cobs::FLAG)
+    }
+
+    // Step 3: D is covered to its end. The flag leaves the lane empty and the line free.
+    fn close(self, lane: Lane) -> Sent
+        ensures { λ r. ⌜ record { answer = nextAnswer (r .answer); state = r .state } ≡ seen (close lane self) ⌝ }
+    {
+        let empty = Queue {
+            length: 0,
+            position: 0,
+        };
+        self.with_queue(lane, empty)
+            .with_line(OnLine::Neither)
+            .sent(cobs::FLAG)
+    }
+
+    // Step 4: with data left the flag, and what is left of the block is dropped; with none left 02, and a cut is due.
+    fn break_off(self) -> Sent
+        ensures { λ r. ⌜ record { answer = nextAnswer (r .answer); state = r .state } ≡ seen (breakOff self) ⌝ }
+    {
+        if 0 < self.left {
+            let mut off = self.with_block(0, 0).with_line(OnLine::Neither);
+            off.suspended = true;
+            return off.sent(cobs::FLAG);
+        }
+        let mut due = self;
+        due.cut = true;
+        due.sent(0x02)
+    }
+
+    // Step 5: the next data octet; the last one also covers its block's zeros.
+    fn send_data(self, lane: Lane, area: &[u8]) -> Sent
+        requires { ⌜ (0 < self .left) × Ready (queue lane self) (self .left) (self .zeros) (now area) ⌝ }
+        ensures { λ r. ⌜ record { answer = nextAnswer (r .answer); state = r .state }
+            ≡ seen (sendData lane self (dataOf (queue lane self) (now (area .entry)))) ⌝ }
+    {
+        let octet = cobs::to_line(self.queue(lane).octet(area));
+        if self.left == 1 {
+            return self.move_on(1 + self.zeros, lane)
+                .with_block(0, 0)
+                .sent(octet);
+        }
+        self.move_on(1, lane)
+            .with_block(self.left - 1, self.zeros)
+            .sent(octet)
+    }
+
+    // Step 6: a code. A block that has no data is covered with it.
+    fn send_code(self, lane: Lane, c: cobs::Choice) -> Sent
+        requires { ⌜ queue lane self .position ≤ 2050 ⌝ }
+        ensures { λ r. ⌜ record { answer = nextAnswer (r .answer); state = r .state } ≡ seen (sendCode lane self c) ⌝ }
+    {
+        let code = cobs::to_line(c.code);
+        if c.octets == 0 {
+            return self.move_on(c.zeros, lane).sent(code);
+        }
+        self.with_block(c.octets, c.zeros).sent(code)
+    }
+
+    // Steps 3 to 6, with the lane on the line.
+    fn onward(self, lane: Lane, area: &[u8]) -> Sent
+        requires { ⌜ Ready (queue lane self) (self .left) (self .zeros) (now area) ⌝ }
+        ensures { λ r. ⌜ record { answer = nextAnswer (r .answer); state = r .state }
+            ≡ seen (onward (agreed (self .settings)) lane self (dataOf (queue lane self) (now (area .entry)))) ⌝ }
+    {
+        let q = self.queue(lane);
+        let high = self.high;
+        if q.length < q.position {
+            return self.close(lane);
+        }
+        if lane.is_low() & crate::pre(self.settings) & (0 < high.length) {
+            return self.break_off();
+        }
+        if 0 < self.left {
+            return self.send_data(lane, area);
+        }
+        self.send_code(lane, q.choose(area, crate::zxe(self.settings)))
+    }
+
+    // Step 2: the line is free. High goes before low; low, if it was suspended, sends D1 and is so no longer.
+    fn take_line(self, low: &[u8], high: &[u8]) -> Sent
+        requires { ⌜ Ready (self .low) (self .left) (self .zeros) (now low) × Ready (self .high) (self .left) (self .zeros) (now high) ⌝ }
+        ensures { λ r. ⌜ record { answer = nextAnswer (r .answer); state = r .state }
+            ≡ seen (takeLine (agreed (self .settings)) (record { state = self; low = now (low .entry); high = now (high .entry) })) ⌝ }
+    {
+        let high_lane = self.high;
+        let low_lane = self.low;
+        if 0 < high_lane.length {
+            return self.with_line(OnLine::Sends(Lane::High))
+                .onward(Lane::High, high);
+        }
+        if 0 < low_lane.length {
+            let mut on = self.with_line(OnLine::Sends(Lane::Low));
+            if self.suspended {
+                on.suspended = false;
+                return on.sent(0xd1);
+            }
+            return on.onward(Lane::Low, low);
+        }
+        Sent {
+            state: self,
+            answer: NextAnswer::Idle,
+        }
+    }
+
+    // The first step that applies.
+    fn steps(self, low: &[u8], high: &[u8]) -> Sent
+        requires { ⌜ (inBounds (agreed (self .settings)) self ≡ true) × (2050 ≤ length (now low)) × (2050 ≤ length (now high)) ⌝ }
+        ensures { λ r. ⌜ record { answer = nextAnswer (r .answer); state = r .state }
+            ≡ seen (steps (agreed (self .settings)) (record { state = self; low = now (low .entry); high = now (high .entry) }) (self .cut) (self .on)) ⌝ }
+    {
+        let on = self.on;
+        if self.cut {
+            return self.cut_off();
+        }
+        match on {
+            OnLine::Neither => self.take_line(low, high),
+            OnLine::Sends(lane) => {
+                match lane {
+                    Lane::Low => self.onward(Lane::Low, low),
+                    Lane::High => self.onward(Lane::High, high),
+                }
+            }
+        }
+    }
+
+    // Next octet: refusals 2 and 3, in this order.
+    pub fn next_octet(self, low: &[u8], high: &[u8]) -> Sent
+        ensures { λ r. ⌜ record { answer = nextAnswer (r .answer); state = r .state }
+            ≡ seen (next (record { state = self; low = now (low .entry); high = now (high .entry) })) ⌝ }
+    {
+        if (low.len() < crate::LARGEST_FRAME) | (high.len() < crate::LARGEST_FRAME) {
+            return self.next_refused(2);
+        }
+        if !self.in_bounds() {
+            return self.next_refused(3);
+        }
+        self.steps(low, high)
     }
 }

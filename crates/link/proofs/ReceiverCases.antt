@@ -1,0 +1,190 @@
+-- The receiver's steps in each of their cases, from the tests that lead to it.
+-- Assumes nothing.
+use mathlib.Core.Path.{_≡_, refl, ap, _∙_}
+use mathlib.Core.Bool.{Bool, true, false, not, _&&_, _||_, and-false}
+use mathlib.Core.List.{List, [], _∷_}
+use Prim.Native.Nat.{ℕ, _+_, _-_, _≤_, _<_}
+use native.Mathlib.Omega.{arith}
+use borrow.Author.Tests.{lt-ltb, le-ltb, eq-eqb, ne-eqb, le-leb}
+use lib.Dec.{leb, eqb}
+use lib.ListN.{length, replicate}
+use Rattle.fcs.specs.Notation.{if_then_else_}
+use Rattle.cobs.specs.CodeBlocks.{flag, fromLine, meaning}
+use Rattle.cobs.specs.declared.Meaning.the-variants.{Counts}
+use Rattle.cobs.proofs.Tests.{decide}
+use Rattle.link.specs.Agreed.{Agreed, agreed, mostDecoded}
+use Rattle.link.specs.Answers.{quiet, refused}
+use Rattle.link.specs.Receiver.{
+  Receiver,
+  Working,
+  Receiving,
+  Receive,
+  due,
+  begin,
+  blockOf,
+  heldOk,
+  freshOk,
+  blockOk,
+  inBounds,
+  refuse,
+  wrote,
+  decode,
+  dataOctet,
+  byMeaning,
+  code,
+  inside,
+  isNone,
+  isD0,
+  ends,
+  hold,
+  whole,
+  close,
+  atFlag,
+  flagged,
+  receive,
+}
+
+-- ---- in bounds
+
+-- what is asked besides the counts
+abbrev pub marksOk : Receiver → Bool
+marksOk r =
+    (eqb (r .refusal) 0 || leb 5 (r .refusal) && leb (r .refusal) 10)
+    && (if r .framed then not (eqb (r .refusal) 0) || blockOk (r .last) r else freshOk r)
+
+module _ (g : Agreed) (r : Receiver) where
+  pub counts-ok : r .decoded ≤ mostDecoded g → heldOk g (r .held) ≡ true → r .left ≤ 207 → r .zeros ≤ 2 → inBounds g r ≡ marksOk r
+  unfolding inBounds
+  counts-ok d h l z = simp (le-leb _ _ d, h, le-leb _ _ l, le-leb _ _ z)
+
+choice-same : (b : Bool) → (if b then true else false) ≡ b
+choice-same true = refl
+choice-same false = refl
+
+-- of the marks: a refusal is remembered only in a frame; without one, in a frame and outside
+module _ (r : Receiver) where
+  pub refusal-ok : (r .refusal ≡ 0 → ⊥) → 5 ≤ r .refusal → r .refusal ≤ 10 → marksOk r ≡ r .framed
+  refusal-ok e l m = simp (ne-eqb _ _ e, le-leb _ _ l, le-leb _ _ m, and-false, choice-same)
+
+  pub framed-ok : r .refusal ≡ 0 → r .framed ≡ true → marksOk r ≡ blockOk (r .last) r
+  framed-ok e f = simp (eq-eqb _ _ e, f)
+
+  pub unframed-ok : r .refusal ≡ 0 → r .framed ≡ false → marksOk r ≡ freshOk r
+  unframed-ok e f = simp (eq-eqb _ _ e, f)
+
+-- ---- a data octet
+
+module _ (g : Agreed) (w : Working) (x : ℕ) where
+  pub no-room : mostDecoded g ≤ w .state .decoded → dataOctet g w x ≡ refuse 10 w
+  unfolding dataOctet
+  no-room h = let t : mostDecoded g < w .state .decoded + 1 = omega arith in simp (lt-ltb _ _ t)
+
+  pub last-octet : w .state .decoded < mostDecoded g → w .state .left ≡ 1
+      → dataOctet g w x ≡ decode g (replicate (w .state .zeros) 0) (wrote (x ∷ []) (record { state = due 0 0 (w .state); area = w .area }))
+  unfolding dataOctet
+  last-octet h l = let t : w .state .decoded + 1 ≤ mostDecoded g = omega arith in simp (le-ltb _ _ t, eq-eqb _ _ l)
+
+  pub inner-octet : w .state .decoded < mostDecoded g → (w .state .left ≡ 1 → ⊥)
+      → dataOctet g w x ≡ wrote (x ∷ []) (record { state = due (w .state .left - 1) (w .state .zeros) (w .state); area = w .area })
+  unfolding dataOctet
+  inner-octet h l = let t : w .state .decoded + 1 ≤ mostDecoded g = omega arith in simp (le-ltb _ _ t, ne-eqb _ _ l)
+
+-- ---- a code
+
+-- v: what decoding the zeros of a block without data made, from the state s in which the block begins
+module _ (w : Working) (c n z : ℕ) (m : meaning (agreed (w .state .settings) .zxe) c ≡ Counts n z) where
+  pub no-data : {s : Receiver} {v : Working} → n ≡ 0 → s ≡ begin (blockOf c) 0 0 (w .state)
+      → v ≡ decode (agreed (s .settings)) (replicate z 0) (record { state = s; area = w .area })
+      → v ≡ code (agreed (w .state .settings)) w c
+  unfolding code byMeaning
+  no-data e b d = simp (m, eq-eqb _ _ e) (rw b at d)
+
+  pub some-data : (n ≡ 0 → ⊥) → code (agreed (w .state .settings)) w c ≡ record { state = begin (blockOf c) n z (w .state); area = w .area }
+  unfolding code byMeaning
+  some-data e = simp (m, ne-eqb _ _ e)
+
+skips : (g : Agreed) (w : Working) (x : ℕ) → (w .state .refusal ≡ 0 → ⊥) → inside g w x ≡ w
+unfolding inside
+skips g w x n = simp (ne-eqb _ _ n)
+
+-- ---- the flag of a frame
+
+module _ (g : Agreed) (r : Receiver) (area : List ℕ) where
+  pub remembered : (r .refusal ≡ 0 → ⊥) → close g r area ≡ ends (refused (r .refusal)) r
+  unfolding close
+  remembered n = simp (ne-eqb _ _ n)
+
+  module _ (n : r .refusal ≡ 0) where
+    pub no-block : isNone (r .last) ≡ true → close g r area ≡ ends (refused 9) r
+    unfolding close
+    no-block l = simp (eq-eqb _ _ n, l)
+
+    module _ (l : isNone (r .last) ≡ false) where
+      pub broken-off : 0 < r .left → g .pre ≡ true → close g r area ≡ hold r
+      unfolding close
+      broken-off b p = simp (eq-eqb _ _ n, l, lt-ltb _ _ b, p)
+
+      pub cut-short : 0 < r .left → g .pre ≡ false → close g r area ≡ ends (refused 11) r
+      unfolding close
+      cut-short b p = simp (eq-eqb _ _ n, l, lt-ltb _ _ b, p)
+
+      pub full-block : r .left ≤ 0 → isD0 (r .last) ≡ true → close g r area ≡ ends (refused 12) r
+      unfolding close
+      full-block b d = simp (eq-eqb _ _ n, l, le-ltb _ _ b, d)
+
+      pub all-blocks : r .left ≤ 0 → isD0 (r .last) ≡ false → close g r area ≡ whole g r area (r .decoded - 1)
+      unfolding close
+      all-blocks b d = simp (eq-eqb _ _ n, l, le-ltb _ _ b, d)
+
+-- ---- the call
+
+-- what is answered of an octet that is no flag, from what it made of one area
+abbrev pub inFirst : Receiving → Working → Receive
+inFirst e w = record { report = quiet; after = record { state = w .state; first = w .area; second = e .second } }
+
+abbrev pub inSecond : Receiving → Working → Receive
+inSecond e w = record { report = quiet; after = record { state = w .state; first = e .first; second = w .area } }
+
+module _ (e : Receiving) (x : ℕ) where
+  abbrev settled : Agreed
+  settled = agreed (e .state .settings)
+
+  pub first-short : length (e .first) < 2051 → receive e x ≡ record { report = refused 2; after = e }
+  unfolding agreed receive
+  first-short h = simp (lt-ltb _ _ h)
+
+  module _ (f : 2051 ≤ length (e .first)) where
+    pub second-short : length (e .second) < 2051 → receive e x ≡ record { report = refused 2; after = e }
+    unfolding agreed receive
+    second-short h = simp (le-ltb _ _ f, lt-ltb _ _ h)
+
+    module _ (s : 2051 ≤ length (e .second)) where
+      pub out-of-bounds : inBounds settled (e .state) ≡ false → receive e x ≡ record { report = refused 3; after = e }
+      unfolding agreed receive
+      out-of-bounds b = simp (le-ltb _ _ f, le-ltb _ _ s, b)
+
+      module _ (b : inBounds settled (e .state) ≡ true) where
+        pub flag-first : x ≡ flag → e .state .second ≡ false → receive e x ≡ flagged e (atFlag settled (e .state) (e .first))
+        unfolding agreed receive
+        flag-first h t = simp (le-ltb _ _ f, le-ltb _ _ s, b, eq-eqb _ _ h, t)
+
+        pub flag-second : x ≡ flag → e .state .second ≡ true → receive e x ≡ flagged e (atFlag settled (e .state) (e .second))
+        unfolding agreed receive
+        flag-second h t = simp (le-ltb _ _ f, le-ltb _ _ s, b, eq-eqb _ _ h, t)
+
+        pub octet-first : (x ≡ flag → ⊥) → e .state .second ≡ false
+            → receive e x ≡ inFirst e (inside settled (record { state = e .state; area = e .first }) (fromLine x))
+        unfolding agreed receive
+        octet-first h t = simp (le-ltb _ _ f, le-ltb _ _ s, b, ne-eqb _ _ h, t)
+
+        pub octet-second : (x ≡ flag → ⊥) → e .state .second ≡ true
+            → receive e x ≡ inSecond e (inside settled (record { state = e .state; area = e .second }) (fromLine x))
+        unfolding agreed receive
+        octet-second h t = simp (le-ltb _ _ f, le-ltb _ _ s, b, ne-eqb _ _ h, t)
+
+        -- a refusal is remembered
+        pub skipped : (x ≡ flag → ⊥) → (e .state .refusal ≡ 0 → ⊥) → receive e x ≡ record { report = quiet; after = e }
+        skipped h n =
+            decide (e .state .second)
+            (λ t. octet-second h t ∙ ap (inSecond e) (skips settled (record { state = e .state; area = e .second }) (fromLine x) n))
+            (λ t. octet-first h t ∙ ap (inFirst e) (skips settled (record { state = e .state; area = e .first }) (fromLine x) n))

@@ -1,0 +1,105 @@
+-- `link::receiver::Receiver::in_bounds`. The counts one by one, then the marks.
+-- Assumes nothing.
+use mathlib.Core.Path.{_≡_, sym, _∙_}
+use borrow.Author.Needs.{needs}
+use borrow.Author.Tests.{not-true, not-false, ne-eqb, le-leb, lt-leb}
+use Rattle.link.specs.Agreed.{agreed}
+use Rattle.link.specs.Receiver.{Receiver, inBounds}
+use Rattle.link.proofs.ReceiverCases.{marksOk, counts-ok, refusal-ok, framed-ok, unframed-ok}
+use Rattle.link.proofs.receiver.Receiver.in_bounds.Statement.{statement}
+use Rattle.link.proofs.receiver.Receiver.in_bounds.Tie as tie
+
+cast-if1 : tie.Need-cast-if1
+cast-if1 c = search needs
+
+returns : tie.Need-returns
+unfolding agreed inBounds
+returns c = simp (lt-leb _ _ (c .if1 .taken))
+
+held-ok-requires : tie.Need-held-ok-requires
+held-ok-requires c κs = search needs
+
+returns-2 : tie.Need-returns-2
+unfolding agreed inBounds
+returns-2 c =
+    let h = c .before in
+    simp (le-leb _ _ (h .before .if1 .left), sym (h .held-ok .ensures) ∙ not-true (h .held-ok .result) (c .if2 .taken))
+
+returns-3 : tie.Need-returns-3
+unfolding agreed inBounds
+returns-3 c =
+    let t = c .before .before in
+    let h = t .before in
+    simp (le-leb _ _ (h .before .if1 .left), sym (h .held-ok .ensures) ∙ not-false (h .held-ok .result) (t .if2 .left), lt-leb _ _ (c .if3 .taken))
+
+returns-4 : tie.Need-returns-4
+unfolding agreed inBounds
+returns-4 c =
+    let s = c .before .before in
+    let t = s .before .before in
+    let h = t .before in
+    simp (
+      le-leb _ _ (h .before .if1 .left),
+      sym (h .held-ok .ensures) ∙ not-false (h .held-ok .result) (t .if2 .left),
+      le-leb _ _ (s .if3 .left),
+      lt-leb _ _ (c .if4 .taken),
+    )
+
+-- behind the four tests only the marks are left
+abbrev self : tie.Else4 → Receiver
+self c = c .before .before .before .before .before .before .before .before .args .self
+
+marks : (c : tie.Else4) → inBounds (agreed (self c .settings)) (self c) ≡ marksOk (self c)
+unfolding agreed
+marks c =
+    let s = c .before .before in
+    let t = s .before .before in
+    let h = t .before in
+    counts-ok _ _ (h .before .if1 .left) (sym (h .held-ok .ensures) ∙ not-false (h .held-ok .result) (t .if2 .left)) (s .if3 .left) (c .if4 .left)
+
+returns-5 : tie.Need-returns-5
+returns-5 c = simp (marks (c .before .before), ne-eqb _ _ (c .before .if5 .taken), lt-leb _ _ (c .if6 .taken))
+
+returns-6 : tie.Need-returns-6
+returns-6 c =
+    let t = c .before .before in
+    simp (marks (t .before), ne-eqb _ _ (t .if5 .taken), le-leb _ _ (c .before .if6 .left), lt-leb _ _ (c .if7 .taken))
+
+returns-7 : tie.Need-returns-7
+returns-7 c =
+    let t = c .before .before in
+    sym (marks (t .before) ∙ refusal-ok (self (t .before)) (t .if5 .taken) (c .before .if6 .left) (c .if7 .left))
+
+block-ok-requires : tie.Need-block-ok-requires
+block-ok-requires c κs = search needs
+
+returns-8 : tie.Need-returns-8
+returns-8 c =
+    let t = c .before .before in
+    c .block-ok .ensures ∙ sym (marks (t .before) ∙ framed-ok (self (t .before)) (t .if5 .left) (c .before .if8 .taken))
+
+fresh-ok-requires : tie.Need-fresh-ok-requires
+fresh-ok-requires c κs = search needs
+
+returns-9 : tie.Need-returns-9
+returns-9 c =
+    let t = c .before .before in
+    c .fresh-ok .ensures ∙ sym (marks (t .before) ∙ unframed-ok (self (t .before)) (t .if5 .left) (c .before .if8 .left))
+
+pub in-bounds-spec : {M : Type 1} → statement M
+in-bounds-spec =
+    tie.close
+    (tie.spec
+    cast-if1
+    returns
+    held-ok-requires
+    returns-2
+    returns-3
+    returns-4
+    returns-5
+    returns-6
+    returns-7
+    block-ok-requires
+    returns-8
+    fresh-ok-requires
+    returns-9)

@@ -1,0 +1,3 @@
+-- What the proofs of the sender's functions share.
+pub mod Bounds
+pub mod Load
