@@ -4,8 +4,8 @@
     python3 tests/vectors.py | diff - crates/vectors/stdout
 
 The check sequence is Python's own CRC (binascii.crc_hqx) with its bits reversed; the code table and the sender's choice are written
-from the COBS draft, sections 3 to 3.3, with document 01's rule for which code is chosen. What is asked, and how a line is worded, is
-the program's; every answer is computed here.
+from the COBS draft, sections 3 to 3.3, with document 01's rule for which code is chosen; the two ends from docs/READING.md. What is asked, and
+how a line is worded, is the program's; every answer is computed here.
 """
 import binascii
 
@@ -114,5 +114,114 @@ def code_blocks():
     ask(nonzero, "choice at non-zero octets", True, "01", "CE", "CF")
 
 
+# ---- the two ends
+
+
+def sent(packet, settings, loads=1):
+    """A fresh sender, loaded so often, until it is idle; nothing interrupts it."""
+    answers = b""
+    held = None
+    for _ in range(loads):
+        if held is not None:
+            answers += b"R\4"
+        elif not 2 <= len(packet) <= 2048:
+            answers += b"R\1"
+        else:
+            held = packet
+            answers += b"D"
+    if held is None:
+        return answers
+    rest = bytes(held) + fcs(held)
+    while rest is not None:
+        code, octets, zeros = choice(rest, settings & 1)
+        answers += (bytes([code]) + rest[:octets]).replace(b"\x7e", b"\0")
+        covered = octets + zeros
+        rest = rest[covered:] if covered <= len(rest) else None
+    return answers + b"\x7e"
+
+
+def reported(line_octets, settings, area=2051, left=0):
+    """A fresh receiver over the octets, frame by frame; the frame's octets are decoded as a whole."""
+    if area < 2051:
+        return b"R\2" * len(line_octets)
+    if left > 207:
+        return b"R\3" * len(line_octets)
+    answers, work, held = b"", 0, None
+    *frames, _ = bytes(line_octets).split(b"\x7e")
+    for frame in filter(None, frames):
+        octets = list(frame.replace(b"\0", b"\x7e"))
+        decoded, last, open_block, refusal = b"", None, False, None
+        resumed = octets[0] == 0xD1
+        keeps = held
+        if octets[0] == 0xFF:
+            refusal, octets = 5, []
+        elif resumed:
+            octets = octets[1:]
+            keeps = None
+            if not settings & 2:
+                refusal = 6
+            elif held is None:
+                refusal = 8
+            else:
+                decoded, work = held, 1 - work
+        while octets and refusal is None:
+            row = code(octets[:1], settings & 1)
+            if row[0]:
+                refusal = row[0]
+                break
+            last, data = octets[0], octets[1 : 1 + row[1]]
+            open_block = len(data) < row[1]
+            octets = octets[1 + row[1] :]
+            decoded += bytes(data)
+            if len(decoded) > 2051:
+                refusal = 10
+            elif not open_block:
+                decoded += bytes(row[2])
+                refusal = 10 if len(decoded) > 2051 else None
+        if refusal is None:
+            if last is None:
+                refusal = 9
+            elif open_block and settings & 2:
+                answers += b"H" + bytes([len(decoded) % 256, held is not None and not resumed])
+                held, work = decoded, 1 - work
+                continue
+            elif open_block:
+                refusal = 11
+            elif last == 0xD0:
+                refusal = 12
+            elif len(decoded) - 1 < 4:
+                refusal = 13
+            elif register(decoded[:-1]) != 0xF0B8:
+                refusal = 14
+        if refusal is None:
+            packet = decoded[:-3]
+            answers += b"P" + bytes([work, len(packet)]) + packet
+        else:
+            answers += b"R" + bytes([refusal])
+        held = keeps
+    return answers
+
+
+def two_ends():
+    for packet in ("00 00", "7E 7E", "31 32 33 34 35 36 37 38 39", "31"):
+        octets = bytes.fromhex(packet)
+        line("sent of", octets, sent(octets, 3))
+    line("settings 00, high lane, sent of", b"\0\0", sent(b"\0\0", 0))
+    line("loaded twice, sent of", b"\0\0", sent(b"\0\0", 3, 2))
+    capture = "0C 31 32 33 7E 0C 31 32 33 34 35 36 37 38 39 6E 90 7E D1 09 34 35 36 37 38 39 6E 90 7E D3 7E"
+    examples = ["FF 03 C0 21 7E", "D2 7E", "D1 01 7E", "05 31 7E D1 7E", "D3 7E", "05 31 31 31 31 7E"]
+    for octets in map(bytes.fromhex, [capture, "7E 7E", "05 31 7E 05 32 7E", *examples]):
+        line("reported of", octets, reported(octets, 3))
+    for octets in map(bytes.fromhex, ["E0 7E", "05 31 7E"]):
+        line("settings 00, reported of", octets, reported(octets, 0))
+    for times, octet, octets in ((136, 0, "DF DB 7E"), (136, 0, "DF DC 7E"), (137, 0, "DF 7E"), (207, 1, "D0 31 7E")):
+        once = bytes.fromhex(octets)
+        repeated = once[:octet] + once[octet : octet + 1] * times + once[octet + 1 :]
+        line(f"{once[octet]:02X} {times} times, reported of", once, reported(repeated, 3))
+    line("second area of 2050 octets, reported of", b"\x7e", reported(b"\x7e", 3, area=2050))
+    line("208 data octets left, reported of", b"\x7e", reported(b"\x7e", 3, left=208))
+
+
 check_sequence()
 code_blocks()
+two_ends()

@@ -17,7 +17,6 @@ use Rattle.link.specs.Receiver.{Receiving, Receive, receive}
 use Rattle.link.specs.Receiver as receiver
 use Rattle.link.specs.Runs.{Packet, Station, Written, Call, loading, nextOctet, opened, writes, written, octets, receives, received, Pointwise, Owed, isOld, gather, collect, packetIn, refusalIn, refusal, standsFor, closing, closed, run, afterLoad, afterNext}
 use Rattle.link.specs.Demands.{fresh, Through, SoundLine, Demand3}
-use Rattle.link.proofs.Tests.{false-true}
 use Rattle.link.proofs.ReceiverBounds.{Ready, outside-in, flag-ends, receive-ready}
 use Rattle.link.proofs.Way.{sender}
 use Rattle.link.proofs.Sound.{station, Stock, Young, Sound, sound-opened, sound-run, sound-load, sound-next}

@@ -1,12 +1,12 @@
 -- The receiver's steps in each of their cases, from the tests that lead to it.
 -- Assumes nothing.
 use mathlib.Core.Path.{_≡_, refl, ap, _∙_}
-use mathlib.Core.Bool.{Bool, true, false, not, _&&_, _||_, and-false}
+use mathlib.Core.Bool.{Bool, true, false, not, _&&_, _||_, and-false, or-comm}
 use mathlib.Core.List.{List, [], _∷_}
 use Prim.Native.Nat.{ℕ, _+_, _-_, _≤_, _<_}
 use native.Mathlib.Omega.{arith}
-use borrow.Author.Tests.{lt-ltb, le-ltb, eq-eqb, ne-eqb, le-leb}
-use lib.Dec.{leb, eqb}
+use borrow.Author.Tests.{lt-ltb, le-ltb, ltb-false, eq-eqb, ne-eqb, le-leb}
+use lib.Dec.{leb, ltb, eqb}
 use lib.ListN.{length, replicate}
 use Rattle.fcs.specs.Notation.{if_then_else_}
 use Rattle.cobs.specs.CodeBlocks.{flag, fromLine, meaning}
@@ -138,6 +138,15 @@ module _ (g : Agreed) (r : Receiver) (area : List ℕ) where
 
 -- ---- the call
 
+neither : (a b : Bool) → (a || b) ≡ false → a ≡ false
+neither true b e = e
+neither false b e = refl
+
+-- the areas are long enough
+pub long-enough : (m n : ℕ) → (ltb m 2051 || ltb n 2051) ≡ false → (2051 ≤ m) × (2051 ≤ n)
+long-enough m n e =
+    (ltb-false _ _ (neither (ltb m 2051) (ltb n 2051) e), ltb-false _ _ (neither (ltb n 2051) (ltb m 2051) (or-comm (ltb n 2051) (ltb m 2051) ∙ e)))
+
 -- what is answered of an octet that is no flag, from what it made of one area
 abbrev pub inFirst : Receiving → Working → Receive
 inFirst e w = record { report = quiet; after = record { state = w .state; first = w .area; second = e .second } }
@@ -149,42 +158,40 @@ module _ (e : Receiving) (x : ℕ) where
   abbrev settled : Agreed
   settled = agreed (e .state .settings)
 
-  pub first-short : length (e .first) < 2051 → receive e x ≡ record { report = refused 2; after = e }
+  abbrev pub short : Bool
+  short = ltb (length (e .first)) 2051 || ltb (length (e .second)) 2051
+
+  pub too-short : short ≡ true → receive e x ≡ record { report = refused 2; after = e }
   unfolding agreed receive
-  first-short h = simp (lt-ltb _ _ h)
+  too-short s = simp s
 
-  module _ (f : 2051 ≤ length (e .first)) where
-    pub second-short : length (e .second) < 2051 → receive e x ≡ record { report = refused 2; after = e }
+  module _ (s : short ≡ false) where
+    pub out-of-bounds : inBounds settled (e .state) ≡ false → receive e x ≡ record { report = refused 3; after = e }
     unfolding agreed receive
-    second-short h = simp (le-ltb _ _ f, lt-ltb _ _ h)
+    out-of-bounds b = simp (s, b)
 
-    module _ (s : 2051 ≤ length (e .second)) where
-      pub out-of-bounds : inBounds settled (e .state) ≡ false → receive e x ≡ record { report = refused 3; after = e }
+    module _ (b : inBounds settled (e .state) ≡ true) where
+      pub flag-first : x ≡ flag → e .state .second ≡ false → receive e x ≡ flagged e (atFlag settled (e .state) (e .first))
       unfolding agreed receive
-      out-of-bounds b = simp (le-ltb _ _ f, le-ltb _ _ s, b)
+      flag-first h t = simp (s, b, eq-eqb _ _ h, t)
 
-      module _ (b : inBounds settled (e .state) ≡ true) where
-        pub flag-first : x ≡ flag → e .state .second ≡ false → receive e x ≡ flagged e (atFlag settled (e .state) (e .first))
-        unfolding agreed receive
-        flag-first h t = simp (le-ltb _ _ f, le-ltb _ _ s, b, eq-eqb _ _ h, t)
+      pub flag-second : x ≡ flag → e .state .second ≡ true → receive e x ≡ flagged e (atFlag settled (e .state) (e .second))
+      unfolding agreed receive
+      flag-second h t = simp (s, b, eq-eqb _ _ h, t)
 
-        pub flag-second : x ≡ flag → e .state .second ≡ true → receive e x ≡ flagged e (atFlag settled (e .state) (e .second))
-        unfolding agreed receive
-        flag-second h t = simp (le-ltb _ _ f, le-ltb _ _ s, b, eq-eqb _ _ h, t)
+      pub octet-first : (x ≡ flag → ⊥) → e .state .second ≡ false
+          → receive e x ≡ inFirst e (inside settled (record { state = e .state; area = e .first }) (fromLine x))
+      unfolding agreed receive
+      octet-first h t = simp (s, b, ne-eqb _ _ h, t)
 
-        pub octet-first : (x ≡ flag → ⊥) → e .state .second ≡ false
-            → receive e x ≡ inFirst e (inside settled (record { state = e .state; area = e .first }) (fromLine x))
-        unfolding agreed receive
-        octet-first h t = simp (le-ltb _ _ f, le-ltb _ _ s, b, ne-eqb _ _ h, t)
+      pub octet-second : (x ≡ flag → ⊥) → e .state .second ≡ true
+          → receive e x ≡ inSecond e (inside settled (record { state = e .state; area = e .second }) (fromLine x))
+      unfolding agreed receive
+      octet-second h t = simp (s, b, ne-eqb _ _ h, t)
 
-        pub octet-second : (x ≡ flag → ⊥) → e .state .second ≡ true
-            → receive e x ≡ inSecond e (inside settled (record { state = e .state; area = e .second }) (fromLine x))
-        unfolding agreed receive
-        octet-second h t = simp (le-ltb _ _ f, le-ltb _ _ s, b, ne-eqb _ _ h, t)
-
-        -- a refusal is remembered
-        pub skipped : (x ≡ flag → ⊥) → (e .state .refusal ≡ 0 → ⊥) → receive e x ≡ record { report = quiet; after = e }
-        skipped h n =
-            decide (e .state .second)
-            (λ t. octet-second h t ∙ ap (inSecond e) (skips settled (record { state = e .state; area = e .second }) (fromLine x) n))
-            (λ t. octet-first h t ∙ ap (inFirst e) (skips settled (record { state = e .state; area = e .first }) (fromLine x) n))
+      -- a refusal is remembered
+      pub skipped : (x ≡ flag → ⊥) → (e .state .refusal ≡ 0 → ⊥) → receive e x ≡ record { report = quiet; after = e }
+      skipped h n =
+          decide (e .state .second)
+          (λ t. octet-second h t ∙ ap (inSecond e) (skips settled (record { state = e .state; area = e .second }) (fromLine x) n))
+          (λ t. octet-first h t ∙ ap (inFirst e) (skips settled (record { state = e .state; area = e .first }) (fromLine x) n))

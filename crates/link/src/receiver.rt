@@ -8,7 +8,7 @@ ghost use Rattle.link.specs.Receiver.{opened, outside, isNone, isD0, isH
 ghost use Rattle.link.specs.Receiver.{remember, resume, begin, blockOf, write, decode, dataOctet, code, firstOctet, inside};
 ghost use Rattle.link.specs.Receiver.{ends, hold, whole, close, atFlag, receive};
 
-// What is held of a packet that was broken off: nothing, or a fragment of so many octets.
+// What is held, document 01's word for what is kept of a packet that was broken off: nothing, or a fragment of so many octets.
 pub enum Fragment {
     Nothing,
     Octets(u16),
@@ -21,8 +21,9 @@ pub enum LastBlock {
     Other,
 }
 
-// second: the second area is the work area; refusal: the one remembered, 0 where there is none. (The order of the fields is the one that
-// takes the fewest instructions an octet.)
+// The two areas take turns, document 01's word, as work area; second: it is the second one's turn. decoded: so many octets of the frame
+// are in the work area. left, zeros: the data octets and the zeros still to come of the block. refusal: the one remembered, 0 where there
+// is none. The order of the fields matters to the machine code: this one took the fewest instructions of those tried (docs/DECISIONS.md).
 pub struct Receiver {
     pub zeros: u8,
     pub resumed: bool,
@@ -452,13 +453,7 @@ impl Receiver {
         }
             ≡ receive (record { state = self; first = now (first .entry); second = now (second .entry) }) octet ⌝ }
     {
-        if first.len() < crate::MOST_DECODED {
-            return Received {
-                state: self,
-                report: Report::Refused(2),
-            };
-        }
-        if second.len() < crate::MOST_DECODED {
+        if (first.len() < crate::MOST_DECODED) | (second.len() < crate::MOST_DECODED) {
             return Received {
                 state: self,
                 report: Report::Refused(2),

@@ -28,7 +28,8 @@ pub struct Queue {
     pub position: u16,
 }
 
-// left: data octets left in the block; zeros: zeros due after them; suspended: the low lane was broken off; cut: a flag is due that breaks it off.
+// Of the block that is being sent, left: the data octets still to come, and zeros: the zeros behind them. suspended: the low lane was
+// broken off. cut: the flag that breaks it off comes next.
 pub struct Sender {
     pub low: Queue,
     pub high: Queue,
@@ -175,7 +176,7 @@ impl Sender {
         self.with_queue(lane, q)
     }
 
-    // Data octets left in the block, and zeros due after them.
+    // What is still to come of the block.
     fn with_block(self, left: u8, zeros: u8) -> Sender
         ensures { λ r. ⌜ r ≡ block left zeros self ⌝ }
     {

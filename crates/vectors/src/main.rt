@@ -3,8 +3,10 @@
 mod check_sequence;
 mod code_blocks;
 mod line;
+mod two_ends;
 
 fn main() {
     check_sequence::run();
     code_blocks::run();
+    two_ends::run();
 }

@@ -8,7 +8,7 @@ use native.Mathlib.Omega.{arith}
 use borrow.Author.Tests.{ltb-false}
 use lib.Dec.{ltb}
 use lib.ListN.{length}
-use Rattle.link.specs.Agreed.{Agreed, agreed}
+use Rattle.link.specs.Agreed.{agreed}
 use Rattle.link.specs.Sender.{Queue, Sender, OnLine, low, high, neither, sending, inBounds}
 use Rattle.link.specs.SenderParts.{Ready}
 use Rattle.link.proofs.Tests.{or-left, or-right}

@@ -3,13 +3,14 @@
 use mathlib.Core.Path.{_≡_, sym, ap, _∙_}
 use mathlib.Core.Bool.{true}
 use Prim.Native.Nat.{_≤_}
+use lib.ListN.{length}
 use native.Mathlib.Omega.{arith}
 use borrow.Author.Needs.{needs}
 use borrow.Author.Tests.{not-true, not-false}
 use Rattle.link.specs.Agreed.{agreed}
 use Rattle.link.specs.Receiver.{Receiving, inBounds, flagged}
 use Rattle.link.proofs.ReceiverBounds.{bounds as facts}
-use Rattle.link.proofs.ReceiverCases.{first-short, second-short, out-of-bounds, flag-first, flag-second}
+use Rattle.link.proofs.ReceiverCases.{too-short, long-enough, out-of-bounds, flag-first, flag-second}
 use Rattle.link.proofs.ReceiverCases.{skipped, octet-first, octet-second, inFirst, inSecond}
 use Rattle.link.proofs.receiver.Receiver.receive.Statement.{statement}
 use Rattle.link.proofs.receiver.Receiver.receive.Tie as tie
@@ -19,78 +20,92 @@ abbrev found : tie.Start → Receiving
 found c = record { state = c .args .self; first = c .args .first .now; second = c .args .second .now }
 
 returns : tie.Need-returns
-returns c = sym (first-short (found (c .before .before .before)) _ (c .if1 .taken))
-
-returns-2 : tie.Need-returns-2
-returns-2 c = sym (second-short (found (c .before .before .before .before)) _ (c .before .if1 .left) (c .if2 .taken))
+returns c = sym (too-short (found (c .before .before .before)) _ (c .if1 .taken))
 
 in-bounds-requires : tie.Need-in-bounds-requires
 in-bounds-requires c κs = search needs
 
-returns-3 : tie.Need-returns-3
-returns-3 c =
+returns-2 : tie.Need-returns-2
+returns-2 c =
     let b = c .before in
     let s = b .before in
-    let no = sym (b .in-bounds .ensures) ∙ not-true (b .in-bounds .result) (c .if3 .taken) in
-    sym (out-of-bounds (found (s .before .before .before .before)) _ (s .before .if1 .left) (s .if2 .left) no)
+    let no = sym (b .in-bounds .ensures) ∙ not-true (b .in-bounds .result) (c .if2 .taken) in
+    sym (out-of-bounds (found (s .before .before .before)) _ (s .if1 .left) no)
 
--- behind the three tests
-bounds : (c : tie.Else3) → (let r = c .before .before .before .before .before .before .args .self in inBounds (agreed (r .settings)) r ≡ true)
-bounds c = sym (c .before .in-bounds .ensures) ∙ not-false (c .before .in-bounds .result) (c .if3 .left)
+-- behind both tests
+abbrev start : tie.Else2 → tie.Start
+start c = c .before .before .before .before .before
 
-fits : (c : tie.Else3) → c .before .before .before .before .before .before .args .self .decoded ≤ 2051
+long : (c : tie.Else2) → (2051 ≤ length (start c .args .first .now)) × (2051 ≤ length (start c .args .second .now))
+long c = long-enough (length (start c .args .first .now)) (length (start c .args .second .now)) (c .before .before .if1 .left)
+
+bounds : (c : tie.Else2) → inBounds (agreed (start c .args .self .settings)) (start c .args .self) ≡ true
+bounds c = sym (c .before .in-bounds .ensures) ∙ not-false (c .before .in-bounds .result) (c .if2 .left)
+
+fits : (c : tie.Else2) → start c .args .self .decoded ≤ 2051
 unfolding agreed
 fits c = facts _ _ (bounds c) .deep
 
 at-flag-requires : tie.Need-at-flag-requires
-at-flag-requires c κs = omega (arith, fits (c .before .before .before))
+at-flag-requires c κs = let b = c .before .before .before in omega (arith, fits b, long b)
 
 at-flag-requires-2 : tie.Need-at-flag-requires-2
-at-flag-requires-2 c κs = omega (arith, fits (c .before .before .before))
+at-flag-requires-2 c κs = let b = c .before .before .before in omega (arith, fits b, long b)
 
 same-length : tie.Need-same-length
 same-length c = search needs
+
+returns-3 : tie.Need-returns-3
+returns-3 c =
+    let t = c .before .before in
+    let b = t .before .before in
+    let e = found (start b) in
+    ap (flagged e) (c .at-flag .ensures) ∙ sym (flag-second e _ (b .before .before .if1 .left) (bounds b) (t .before .if3 .taken) (t .if4 .taken))
+
+same-length-2 : tie.Need-same-length-2
+same-length-2 c = search needs
 
 returns-4 : tie.Need-returns-4
 returns-4 c =
     let t = c .before .before in
     let b = t .before .before in
-    let s = b .before .before in
-    let e = found (s .before .before .before .before) in
-    ap (flagged e) (c .at-flag .ensures)
-    ∙ sym (flag-second e _ (s .before .if1 .left) (s .if2 .left) (bounds b) (t .before .if4 .taken) (t .if5 .taken))
-
-same-length-2 : tie.Need-same-length-2
-same-length-2 c = search needs
+    let e = found (start b) in
+    ap (flagged e) (c .at-flag2 .ensures) ∙ sym (flag-first e _ (b .before .before .if1 .left) (bounds b) (t .before .if3 .taken) (t .if4 .left))
 
 returns-5 : tie.Need-returns-5
 returns-5 c =
     let t = c .before .before in
-    let b = t .before .before in
-    let s = b .before .before in
-    let e = found (s .before .before .before .before) in
-    ap (flagged e) (c .at-flag2 .ensures)
-    ∙ sym (flag-first e _ (s .before .if1 .left) (s .if2 .left) (bounds b) (t .before .if4 .taken) (t .if5 .left))
-
-returns-6 : tie.Need-returns-6
-returns-6 c =
-    let t = c .before .before in
     let b = t .before in
-    let s = b .before .before in
-    let e = found (s .before .before .before .before) in
-    sym (skipped e _ (s .before .if1 .left) (s .if2 .left) (bounds b) (t .if4 .left) (c .if6 .taken))
+    sym (skipped (found (start b)) _ (b .before .before .if1 .left) (bounds b) (t .if3 .left) (c .if5 .taken))
 
 from-line-requires : tie.Need-from-line-requires
 from-line-requires c κs = search needs
 
 inside-requires : tie.Need-inside-requires
-inside-requires c κs = search needs
+inside-requires c κs =
+    let n = c .before .before .before in
+    (n .if5 .left, long (n .before .before .before) .1)
 
 inside-requires-2 : tie.Need-inside-requires-2
-inside-requires-2 c κs = search needs
+inside-requires-2 c κs =
+    let n = c .before .before .before in
+    (n .if5 .left, long (n .before .before .before) .0)
 
 same-length-3 : tie.Need-same-length-3
 same-length-3 c = search needs
+
+returns-6 : tie.Need-returns-6
+returns-6 c =
+    let w = c .before .before in
+    let l = w .before .before .before in
+    let t = l .before .before .before in
+    let b = t .before in
+    let e = found (start b) in
+    ap (inSecond e) (rw (l .from-line .ensures) at (w .inside .ensures))
+    ∙ sym (octet-second e _ (b .before .before .if1 .left) (bounds b) (t .if3 .left) (w .before .before .if6 .taken))
+
+same-length-4 : tie.Need-same-length-4
+same-length-4 c = search needs
 
 returns-7 : tie.Need-returns-7
 returns-7 c =
@@ -98,44 +113,28 @@ returns-7 c =
     let l = w .before .before .before in
     let t = l .before .before .before in
     let b = t .before in
-    let s = b .before .before in
-    let e = found (s .before .before .before .before) in
-    ap (inSecond e) (rw (l .from-line .ensures) at (w .inside .ensures))
-    ∙ sym (octet-second e _ (s .before .if1 .left) (s .if2 .left) (bounds b) (t .if4 .left) (w .before .before .if7 .taken))
-
-same-length-4 : tie.Need-same-length-4
-same-length-4 c = search needs
-
-returns-8 : tie.Need-returns-8
-returns-8 c =
-    let w = c .before .before in
-    let l = w .before .before .before in
-    let t = l .before .before .before in
-    let b = t .before in
-    let s = b .before .before in
-    let e = found (s .before .before .before .before) in
+    let e = found (start b) in
     ap (inFirst e) (rw (l .from-line .ensures) at (w .inside2 .ensures))
-    ∙ sym (octet-first e _ (s .before .if1 .left) (s .if2 .left) (bounds b) (t .if4 .left) (w .before .before .if7 .left))
+    ∙ sym (octet-first e _ (b .before .before .if1 .left) (bounds b) (t .if3 .left) (w .before .before .if6 .left))
 
 pub receive-spec : {M : Type 1} → statement M
 receive-spec =
     tie.close
     (tie.spec
     returns
-    returns-2
     in-bounds-requires
-    returns-3
+    returns-2
     at-flag-requires
     at-flag-requires-2
     same-length
-    returns-4
+    returns-3
     same-length-2
+    returns-4
     returns-5
-    returns-6
     from-line-requires
     inside-requires
     inside-requires-2
     same-length-3
-    returns-7
+    returns-6
     same-length-4
-    returns-8)
+    returns-7)
