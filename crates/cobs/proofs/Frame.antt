@@ -31,6 +31,16 @@ no-zero : (l : List ℕ) → ((i : ℕ) → i < length l → getD l i 0 ≡ 0 �
 no-zero [] h m = List·Memᴰ·not-nil m
 no-zero (x ∷ l) h m = ⊎-elim (λ e. h 0 (omega arith) (sym e)) (no-zero l (λ i k. h (suc i) (omega arith))) (List·Memᴰ·cases-cons m)
 
+-- n zeros, one by one, are a list of zeros
+pub zeros-from : (l : List ℕ) (from n : ℕ) → from + n ≤ length l → ((i : ℕ) → i < n → getD l (from + i) 0 ≡ 0)
+    → take n (drop from l) ≡ replicate n 0
+zeros-from l from n fits all =
+    let k : length (take n (drop from l)) ≡ n = length-take-le n (drop from l) (omega (arith, length-drop from l)) in
+    ext-getD 0 (take n (drop from l)) (replicate n 0) (k ∙ sym (length-replicate n 0))
+    (λ i h.
+    let j : i < n = omega arith in
+    getD-take n (drop from l) i 0 j ∙ (getD-drop from l i 0 ∙ (all i j ∙ sym (getD-replicate n i 0 0 j))))
+
 -- ---- a block that stands at the head of a rest of D
 
 module _ (zxe : Bool) (rest : List ℕ) (c : Choice) (f : Stands zxe rest c) where
@@ -53,16 +63,7 @@ module _ (zxe : Bool) (rest : List ℕ) (c : Choice) (f : Stands zxe rest c) whe
 
   -- its zeros stand behind its data octets
   pub zeros-stand : take (c .zeros) (drop (c .octets) rest) ≡ replicate (c .zeros) 0
-  zeros-stand =
-      let behind = drop (c .octets) rest in
-      let n : length (take (c .zeros) behind) ≡ c .zeros = length-take-le (c .zeros) behind (omega (arith, length-drop (c .octets) rest, f .inside)) in
-      ext-getD 0 (take (c .zeros) behind) (replicate (c .zeros) 0) (n ∙ sym (length-replicate (c .zeros) 0))
-      (λ i h.
-      let k : i < c .zeros = omega arith in
-      getD-take (c .zeros) behind i 0 k
-      ∙ (getD-drop (c .octets) rest i 0
-      ∙ (f .zero (c .octets + i) (omega arith) (omega arith)
-      ∙ sym (getD-replicate (c .zeros) i 0 0 k))))
+  zeros-stand = zeros-from rest (c .octets) (c .zeros) (f .inside) (λ i k. f .zero (c .octets + i) (omega arith) (omega arith))
 
   -- the rest is what the block stands for and what is behind it
   pub block-covers : take (c .octets) rest ++ replicate (zerosAfter (blockAt rest c)) 0 ++ drop (covered c) rest ≡ rest

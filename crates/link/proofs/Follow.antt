@@ -8,8 +8,8 @@ use Prim.Native.Nat.{ℕ, _+_, _-_, _≤_, _<_}
 use native.Mathlib.Omega.{arith}
 use borrow.Author.Tests.{eqb-true, lt-ltb, le-ltb, eq-eqb, ne-eqb}
 use lib.Dec.{ltb, eqb}
-use lib.ListN.{length, take, drop, getD, replicate, length-append, length-drop, length-replicate, getD-replicate}
-use lib.Seq.{take-add, drop-cons, take-append-seam, take-take, length-take-le, getD-take, getD-drop, ext-getD}
+use lib.ListN.{length, take, drop, getD, replicate, length-append, length-drop, length-replicate}
+use lib.Seq.{take-add, drop-cons, take-append-seam, take-take, getD-drop}
 use Rattle.fcs.specs.CheckSequence.{Sound, fcs, good}
 use Rattle.fcs.proofs.Laws.{fcs-length, good-frame}
 use Rattle.cobs.specs.CodeBlocks.{frame, withPhantom, flag, meaning}
@@ -18,6 +18,7 @@ use Rattle.cobs.specs.declared.Meaning.the-variants.{Counts}
 use Rattle.cobs.proofs.Tests.{branch, decide}
 use Rattle.cobs.proofs.Table.{Row, plain-row, row-read, numbers}
 use Rattle.cobs.proofs.Chosen.{Stands}
+use Rattle.cobs.proofs.Frame.{zeros-from}
 use Rattle.link.specs.Agreed.{Agreed, leastPacket, leastFrame, mostDecoded}
 use Rattle.link.specs.Answers.{held, packet, refused}
 use Rattle.link.specs.Receiver.{Fragment, octets, LastBlock, noBlock, full, other, Receiver, Working, Receiving, due, begin, isNone, isD0, write, wrote, decode, dataOctet, blockOf, byMeaning, code, takeUp, resume, firstOctet, inside, isHeld, ends, hold, whole, close, atFlag, areaOf, work, putBack, flagged, receive}
@@ -55,14 +56,6 @@ pub record Moved (d : List ℕ) (pos n z : ℕ) (w w′ : Working) : Type 0 wher
 pub record BlockAt (d : List ℕ) (pos n z : ℕ) : Type 0 where
   pub nonzero : (i : ℕ) → i < n → getD d (pos + i) 0 ≡ 0 → ⊥
   pub zero : (i : ℕ) → n ≤ i → i < n + z → getD d (pos + i) 0 ≡ 0
-
-zeros-from : (d : List ℕ) (pos z : ℕ) → pos + z ≤ length d → ((i : ℕ) → i < z → getD d (pos + i) 0 ≡ 0) → take z (drop pos d) ≡ replicate z 0
-zeros-from d pos z fits all =
-    let n : length (take z (drop pos d)) ≡ z = length-take-le z (drop pos d) (omega (arith, length-drop pos d)) in
-    ext-getD 0 (take z (drop pos d)) (replicate z 0) (n ∙ sym (length-replicate z 0))
-    (λ i h.
-    let k : i < z = omega arith in
-    getD-take z (drop pos d) i 0 k ∙ (getD-drop pos d i 0 ∙ (all i k ∙ sym (getD-replicate z i 0 0 k))))
 
 -- ---- the step that an octet takes
 

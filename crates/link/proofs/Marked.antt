@@ -22,9 +22,9 @@ use Rattle.link.specs.Sender.{Lane, low, high, put, load, breakOff, send
 use Rattle.link.specs.Sender as sender
 use Rattle.link.specs.Receiver.{Working, Receiving, Receive, Ended, isNone, isD0, decode, dataOctet, byMeaning, code, takeUp, resume, firstOctet, inside, whole, close, atFlag, work, putBack, flagged, receive}
 use Rattle.link.specs.Receiver as receiver
-use Rattle.link.specs.Runs.{afterLoad, afterNext, written, receives, received}
+use Rattle.link.specs.Runs.{afterLoad, afterNext, run, written, receives, received}
 use Rattle.link.specs.Demands.{fresh}
-use Rattle.link.specs.Marked.{Case, tenth, Holds, first·area, cases, Marked}
+use Rattle.link.specs.Marked.{Case, tenth, Holds, first·area, cases, Marked, AtWork}
 use Rattle.link.proofs.Tests.{if-so, if-not, true-false}
 use Rattle.link.proofs.ReceiverBounds.{Ready, receive-flag, receive-other, receive-ready}
 use Rattle.link.proofs.Follow.{inside-code, code-is}
@@ -182,3 +182,9 @@ each (d ∷ cs) t c m = ⊎-elim (λ q. subst Holds (sym q) (t .0)) (each cs (t 
 
 pub marked : Marked
 marked = each cases all
+
+-- ---- demand 3 at work
+
+pub at-work : AtWork
+unfolding run received written receives afterLoad afterNext agreed put load breakOff sendData sendCode onward takeLine steps next sender.inBounds decode dataOctet byMeaning code takeUp resume firstOctet inside whole close atFlag receive receiver.inBounds within codeTable meaning toLine fromLine leading choice _⊕_ bitStep bitSteps entry octetStep feed register lowFirst fcs good
+at-work = (refl, refl)

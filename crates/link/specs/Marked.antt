@@ -8,9 +8,9 @@ use Prim.Native.Nat.{ℕ, _+_}
 use lib.ListN.{length, replicate}
 use Rattle.cobs.specs.CodeBlocks.{flag, choice}
 use Rattle.link.specs.Answers.{Answer, done, octet, idle, quiet, packet, held, refused}
-use Rattle.link.specs.Sender.{Lane}
+use Rattle.link.specs.Sender.{Lane, low, high}
 use Rattle.link.specs.Receiver.{receive}
-use Rattle.link.specs.Runs.{loading, nextOctet, opened, written, octets, receives, received}
+use Rattle.link.specs.Runs.{Call, loading, nextOctet, opened, run, afterNext, written, octets, receives, received, packetIn, isOld, collect}
 use Rattle.link.specs.Demands.{fresh, Told, told}
 
 -- sent: with these settings this packet is sent so, from either lane, and then the sender is idle
@@ -99,3 +99,24 @@ cases =
 -- every case of the table holds
 abbrev pub Marked : Type 0
 Marked = (c : Case) → List·Memᴰ c cases → Holds c
+
+-- ---- demand 3 at work
+
+-- A run that demand 3 speaks of, so that a reader sees what it leaves aside. Noise left a fragment held. The low packet 31 32 33 has sent
+-- two octets when the high packet 41 42 is loaded; the chosen flag is the one that breaks it off. Later 43 44 is loaded too.
+abbrev noise : List ℕ
+noise = 0x05 ∷ 0x58 ∷ 0x7E ∷ 0x06 ∷ 0x59 ∷ []
+
+abbrev before : List Call
+before = loading low (0x31 ∷ 0x32 ∷ 0x33 ∷ []) ∷ nextOctet ∷ nextOctet ∷ loading high (0x41 ∷ 0x42 ∷ []) ∷ []
+
+abbrev after : List Call
+after = replicate 6 nextOctet ++ (loading high (0x43 ∷ 0x44 ∷ []) ∷ replicate 20 nextOctet)
+
+-- both high packets come through; the low one is left aside, though its last frame is written too
+abbrev pub AtWork : Type 0
+AtWork =
+    let w = afterNext true (run (opened 0x03 low·area low·area) before) in
+    let e = receive (received (fresh 0x03 first·area first·area) noise) flag .after in
+    let es = written w after in
+    (collect packetIn es (receives e (octets es)) ≡ (0x41 ∷ 0x42 ∷ []) ∷ (0x43 ∷ 0x44 ∷ []) ∷ []) × (isOld (w .lanes .low) ≡ true)
