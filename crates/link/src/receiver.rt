@@ -23,7 +23,7 @@ pub enum LastBlock {
 
 // The two areas take turns, document 01's word, as work area; second: it is the second one's turn. decoded: so many octets of the frame
 // are in the work area. left, zeros: the data octets and the zeros still to come of the block. refusal: the one remembered, 0 where there
-// is none. The order of the fields matters to the machine code: this one took the fewest instructions of those tried (docs/DECISIONS.md).
+// is none. The order of the fields matters to the machine code: this one took few instructions among those tried (docs/LANDINGS.md).
 pub struct Receiver {
     pub zeros: u8,
     pub resumed: bool,
