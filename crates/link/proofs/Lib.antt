@@ -4,6 +4,7 @@ pub mod D
 pub mod Area
 pub mod Write
 pub mod ReceiverBounds
+pub mod Within
 pub mod ReceiverCases
 pub mod Follow
 pub mod Way

@@ -1,0 +1,134 @@
+// States handed in and shown as numbers.
+use crate::script::number;
+use link::receiver::Fragment;
+use link::receiver::LastBlock;
+use link::receiver::Receiver;
+use link::sender::Lane;
+use link::sender::OnLine;
+use link::sender::Queue;
+use link::sender::Sender;
+
+// A mark is the number's remainder by 2.
+fn mark(low: u8) -> bool {
+    low % 2 == 1
+}
+
+fn queue(a: u8, b: u8, c: u8, d: u8) -> Queue {
+    Queue {
+        length: number(a, b),
+        position: number(c, d),
+    }
+}
+
+fn on_line(n: u16) -> OnLine {
+    match n % 3 {
+        0 => OnLine::Neither,
+        1 => OnLine::Sends(Lane::Low),
+        _ => OnLine::Sends(Lane::High),
+    }
+}
+
+fn on_number(on: OnLine) -> u64 {
+    match on {
+        OnLine::Neither => 0,
+        OnLine::Sends(lane) => match lane {
+            Lane::Low => 1,
+            Lane::High => 2,
+        },
+    }
+}
+
+// The ten numbers of a sender, in the order of docs/EXERCISE.md.
+pub(crate) fn sender(n: [u8; 20]) -> Sender {
+    Sender {
+        low: queue(n[2], n[3], n[4], n[5]),
+        high: queue(n[6], n[7], n[8], n[9]),
+        left: n[10],
+        zeros: n[12],
+        on: on_line(number(n[14], n[15])),
+        suspended: mark(n[16]),
+        cut: mark(n[18]),
+        settings: n[0],
+    }
+}
+
+pub(crate) fn sender_numbers(s: Sender) -> [u64; 10] {
+    let low = s.low;
+    let high = s.high;
+    let on = s.on;
+    [
+        s.settings as u64,
+        low.length as u64,
+        low.position as u64,
+        high.length as u64,
+        high.position as u64,
+        s.left as u64,
+        s.zeros as u64,
+        on_number(on),
+        s.suspended as u64,
+        s.cut as u64,
+    ]
+}
+
+fn fragment(n: u16) -> Fragment {
+    if n == 0 {
+        return Fragment::Nothing;
+    }
+    Fragment::Octets(n - 1)
+}
+
+fn held_number(held: Fragment) -> u64 {
+    match held {
+        Fragment::Nothing => 0,
+        Fragment::Octets(n) => n as u64 + 1,
+    }
+}
+
+fn last_block(n: u16) -> LastBlock {
+    match n % 3 {
+        0 => LastBlock::NoBlock,
+        1 => LastBlock::Full,
+        _ => LastBlock::Other,
+    }
+}
+
+fn last_number(last: LastBlock) -> u64 {
+    match last {
+        LastBlock::NoBlock => 0,
+        LastBlock::Full => 1,
+        LastBlock::Other => 2,
+    }
+}
+
+// The ten numbers of a receiver.
+pub(crate) fn receiver(n: [u8; 20]) -> Receiver {
+    Receiver {
+        settings: n[0],
+        second: mark(n[2]),
+        decoded: number(n[4], n[5]),
+        held: fragment(number(n[6], n[7])),
+        left: n[8],
+        zeros: n[10],
+        last: last_block(number(n[12], n[13])),
+        framed: mark(n[14]),
+        resumed: mark(n[16]),
+        refusal: n[18],
+    }
+}
+
+pub(crate) fn receiver_numbers(r: Receiver) -> [u64; 10] {
+    let held = r.held;
+    let last = r.last;
+    [
+        r.settings as u64,
+        r.second as u64,
+        r.decoded as u64,
+        held_number(held),
+        r.left as u64,
+        r.zeros as u64,
+        last_number(last),
+        r.framed as u64,
+        r.resumed as u64,
+        r.refusal as u64,
+    ]
+}

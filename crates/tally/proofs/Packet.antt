@@ -1,0 +1,23 @@
+-- What is shown of a Packet report is the packet that it stands for.
+-- Assumes nothing.
+use mathlib.Core.List.{List}
+use mathlib.Core.Option.{some}
+use mathlib.Core.Path.{_≡_, ap, subst, _∙_}
+use Prim.Native.Nat.{ℕ, _≤_}
+use borrow.Author.Tests.{le-leb}
+use lib.ListN.{length, take}
+use Rattle.link.specs.Answers.{Answer}
+use Rattle.link.specs.Receiver.{areaOf, receive}
+use Rattle.link.specs.Runs.{standsFor}
+use Rattle.link.proofs.Within.{Within, within}
+use Rattle.tally.specs.Display.{front, ShowsThePacket}
+
+front-all : (n : ℕ) (area : List ℕ) → n ≤ length area → take n area ≡ front n area
+unfolding front
+front-all n area h = rw (le-leb n (length area) h)
+
+pub shows-the-packet : ShowsThePacket
+shows-the-packet e x second n p =
+    let after = receive e x .after in
+    let l : n ≤ length (areaOf second after) = subst (λ (a : Answer). Within a after) p (within e x) in
+    ap (λ (a : Answer). standsFor a after) p ∙ ap some (front-all n (areaOf second after) l)

@@ -1,0 +1,131 @@
+-- Each count is the number of reports of its kind, and below the largest they add up.
+-- Assumes nothing.
+use mathlib.Core.Bool.{true, false, _&&_}
+use mathlib.Core.List.{List, [], _∷_, sum}
+use mathlib.Core.Path.{_≡_, refl, sym, _∙_}
+use Prim.Native.Nat.{ℕ, zero, suc, _+_, _-_, _≤_, _<_, min}
+use native.Mathlib.Nat.{le-of-suc-le-suc}
+use native.Mathlib.Omega.{arith}
+use borrow.Author.Tests.{ltb-true, ltb-false, leb-true, eqb-true, le-leb, lt-ltb, eq-eqb}
+use lib.Dec.{leb, ltb, eqb}
+use lib.ListN.{length, getD, set, length-set, getD-replicate}
+use lib.Seq.{getD-set-same, getD-set-other}
+use Rattle.fcs.specs.Notation.{if_then_else_}
+use Rattle.cobs.proofs.Tests.{branch, decide, and-left, and-right}
+use Rattle.link.proofs.Tests.{and-intro, true-false, false-true}
+use Rattle.link.specs.Answers.{Answer, done, octet, idle, quiet, packet, held, refused}
+use Rattle.tally.specs.Counts.{Tally, places, largest, empty, place, count, raised, note}
+use Rattle.tally.specs.Sums.{total, isCounted, ofKind, Fits, EachCount, AddUp, FromEmpty}
+
+-- ---- a report is counted at the place of its kind, and at no other
+
+pub at-place : (p : ℕ) → p < places → (r : Answer) → ofKind p r ≡ true → place r ≡ p
+unfolding place
+at-place p h done e = false-true e
+at-place p h (octet x) e = false-true e
+at-place p h idle e = false-true e
+at-place p h quiet e = false-true e
+at-place p h (packet second n) e = sym (eqb-true p 0 e)
+at-place p h (held n replaced) e = sym (eqb-true p (if replaced then 2 else 1) e)
+at-place p h (refused n) e =
+    let l = leb-true 3 p (and-left (leb 3 p) (eqb n (p + 2)) e) in
+    let q = eqb-true n (p + 2) (and-right (leb 3 p) (eqb n (p + 2)) e) in
+    rw (le-leb 5 n (omega arith), le-leb n 14 (omega arith)) (omega arith)
+
+pub only-there : (p : ℕ) → p < places → (r : Answer) → place r ≡ p → ofKind p r ≡ true
+unfolding place
+only-there p h done e = absurd (omega arith)
+only-there p h (octet x) e = absurd (omega arith)
+only-there p h idle e = absurd (omega arith)
+only-there p h quiet e = absurd (omega arith)
+only-there p h (packet second n) e = eq-eqb p 0 (sym e)
+only-there p h (held n replaced) e = eq-eqb p (if replaced then 2 else 1) (sym e)
+only-there p h (refused n) e =
+    branch (λ q. q ≡ p → ofKind p (refused n) ≡ true) (leb 5 n && leb n 14)
+    (λ t q. let l = leb-true 5 n (and-left (leb 5 n) (leb n 14) t) in and-intro (leb 3 p) (eqb n (p + 2)) (le-leb 3 p (omega arith)) (eq-eqb n (p + 2) (omega arith)))
+    (λ t q. absurd (omega arith))
+    e
+
+pub has-place : (r : Answer) → isCounted r ≡ ltb (place r) places
+unfolding place
+has-place done = refl
+has-place (octet x) = refl
+has-place idle = refl
+has-place quiet = refl
+has-place (packet second n) = refl
+has-place (held n true) = refl
+has-place (held n false) = refl
+has-place (refused n) =
+    branch (λ q. (leb 5 n && leb n 14) ≡ ltb q places) (leb 5 n && leb n 14)
+    (λ t. let u = leb-true n 14 (and-right (leb 5 n) (leb n 14) t) in t ∙ sym (lt-ltb (3 + (n - 5)) places (omega arith)))
+    (λ t. t)
+
+-- ---- one report
+
+raised-is : (n : ℕ) → n ≤ largest → raised n ≡ min largest (n + 1)
+raised-is n h =
+    branch (λ m. m ≡ min largest (n + 1)) (ltb n largest) (λ e. let l = ltb-true n largest e in omega arith) (λ e. let l = ltb-false n largest e in omega arith)
+
+-- one more at a place is one more in all
+sum-set : (l : List ℕ) (i : ℕ) → i < length l → sum _+_ 0 (set l i (getD l i 0 + 1)) ≡ sum _+_ 0 l + 1
+unfolding sum
+sum-set [] i h = absurd (omega arith)
+sum-set (x ∷ xs) zero h = omega arith
+sum-set (x ∷ xs) (suc i) h = let e = sum-set xs i (le-of-suc-le-suc h) in omega arith
+
+module _ (t : Tally) (fits : Fits t) (r : Answer) where
+  -- each count
+  count-note : (p : ℕ) → p < places → count (note t r) p ≡ min largest (count t p + (if ofKind p r then 1 else 0))
+  unfolding note
+  count-note p h =
+      let l = fits .thirteen in
+      let m = fits .small p h in
+      branch (λ x. count (note t r) p ≡ min largest (count t p + x)) (ofKind p r)
+      (λ e. rw (at-place p h r e, lt-ltb p places h) (getD-set-same (t .counts) p (raised (count t p)) 0 (omega arith) ∙ raised-is (count t p) m))
+      (λ e. branch (λ u. count u p ≡ min largest (count t p + 0)) (ltb (place r) places)
+      (λ _. getD-set-other (t .counts) (place r) p _ 0 (λ q. true-false (sym (only-there p h r (sym q)) ∙ e)) ∙ omega arith)
+      (λ _. omega arith))
+
+  fits-note : Fits (note t r)
+  unfolding note
+  fits-note =
+      record {
+        thirteen = branch (λ (u : Tally). length (u .counts) ≡ places) (ltb (place r) places) (λ _. simp length-set (fits .thirteen)) (λ _. fits .thirteen);
+        small = λ p h. omega (arith, count-note p h);
+      }
+
+  -- all counts
+  total-note : (place r < places → count t (place r) < largest) → total (note t r) ≡ total t + (if isCounted r then 1 else 0)
+  unfolding note
+  total-note low =
+      decide (ltb (place r) places)
+      (λ e. let h = ltb-true (place r) places e in
+      let l = fits .thirteen in
+      simp (has-place r, e, lt-ltb _ _ (low h)) (sum-set (t .counts) (place r) (omega arith)))
+      (λ e. simp (has-place r, e) (omega arith))
+
+-- ---- a list of reports
+
+pub each-count : EachCount
+each-count t fits [] p h = omega (arith, fits .small p h)
+each-count t fits (r ∷ rs) p h = each-count (note t r) (fits-note t fits r) rs p h ∙ omega (arith, count-note t fits r p h)
+
+pub add-up : AddUp
+add-up t fits [] below = omega arith
+add-up t fits (r ∷ rs) below =
+    add-up (note t r) (fits-note t fits r) rs below
+    ∙ omega (arith, total-note t fits r (λ h. omega (arith, each-count t fits (r ∷ rs) (place r) h, below (place r) h)))
+
+none-yet : (p : ℕ) → p < places → count empty p ≡ 0
+none-yet p h = getD-replicate places p 0 0 h
+
+fits-empty : Fits empty
+fits-empty = record { thirteen = refl; small = λ p h. omega (arith, none-yet p h) }
+
+pub from-empty : FromEmpty
+unfolding sum
+from-empty =
+    record {
+      each = λ rs below p h. omega (arith, each-count empty fits-empty rs p h, none-yet p h, below p h);
+      together = λ rs below. add-up empty fits-empty rs below ∙ omega arith;
+    }

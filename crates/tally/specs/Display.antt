@@ -1,0 +1,28 @@
+-- What is shown of a reported packet (document 01, "Display, tally, capture program").
+-- Assumes nothing.
+use mathlib.Core.Bool.{Bool}
+use mathlib.Core.List.{List, []}
+use mathlib.Core.Option.{some}
+use mathlib.Core.Path.{_≡_}
+use Prim.Native.Nat.{ℕ}
+use lib.Dec.{leb}
+use lib.ListN.{length, take}
+use Rattle.fcs.specs.Notation.{if_then_else_}
+use Rattle.link.specs.Answers.{packet}
+use Rattle.link.specs.Receiver.{Receiving, receive}
+use Rattle.link.specs.Runs.{packetIn}
+
+-- the first n octets of an area; of an area that has fewer, none
+unfoldable pub front : ℕ → List ℕ → List ℕ
+front n area = if leb n (length area) then take n area else []
+
+-- a packet of n octets, in the area that took it
+abbrev pub shown : Bool → ℕ → List ℕ → List ℕ → List ℕ
+shown inSecond n first second = front n (if inSecond then second else first)
+
+-- Of every call of the receiver that answers Packet: what is shown, from the areas as that call left them, is the packet that the report
+-- stands for.
+abbrev pub ShowsThePacket : Type 0
+ShowsThePacket = (e : Receiving) (x : ℕ) (second : Bool) (n : ℕ)
+    → (let h = receive e x in
+    h .report ≡ packet second n → packetIn h ≡ some (shown second n (h .after .first) (h .after .second)))

@@ -1,0 +1,122 @@
+// The display of a reported packet, and the tally of reports (document 01, "Display, tally, capture program").
+ghost use mathlib.Core.Path.{_≡_};
+ghost use Rattle.link.specs.Answers.{report};
+ghost use Rattle.tally.specs.Display.{front, shown};
+ghost use Rattle.tally.specs.Counts.{empty, place, raised, note};
+use link::receiver::Report;
+
+// ---- display
+
+// The octets of a reported packet, as a part of whichever area took it: nothing is copied. in_second, n: the `second` and `length` of its
+// `Report::Packet`. A length beyond that area shows the area's empty beginning.
+pub fn shown<'a>(in_second: bool, n: u16, first: &'a [u8], second: &'a [u8]) -> &'a [u8]
+    ensures { λ r. ⌜ now r ≡ shown in_second n (now (first .entry)) (now (second .entry)) ⌝ }
+{
+    if in_second {
+        front(n, second)
+    } else {
+        front(n, first)
+    }
+}
+
+// The first n octets of one area, or none if it has fewer.
+fn front(n: u16, area: &[u8]) -> &[u8]
+    ensures { λ r. ⌜ now r ≡ front n (now (area .entry)) ⌝ }
+{
+    let end = n as usize;
+    if end <= area.len() {
+        &area[0..end]
+    } else {
+        &area[0..0]
+    }
+}
+
+// ---- tally
+
+// The places of the counts: packets, held with nothing replaced, held with replacement, and from REFUSALS on refusals 5 to 14 in order.
+pub const PACKETS: usize = 0;
+
+pub const HELD: usize = 1;
+
+pub const HELD_REPLACING: usize = 2;
+
+pub const REFUSALS: usize = 3;
+
+// How many counts there are. As a place it means that a report has no count.
+pub const COUNTS: usize = 13;
+
+// The refusals that are counted: those of frames.
+pub const FIRST_REFUSAL: u8 = 5;
+
+pub const LAST_REFUSAL: u8 = 14;
+
+// A count at its largest stays.
+pub const LARGEST: u64 = 0xffff_ffff_ffff_ffff;
+
+pub struct Tally {
+    pub counts: [u64; COUNTS],
+}
+
+// All counts 0.
+pub fn empty() -> Tally
+    ensures { λ t. ⌜ t ≡ empty ⌝ }
+{
+    Tally {
+        counts: [0; COUNTS],
+    }
+}
+
+// Where a report is counted.
+fn place(r: Report) -> usize
+    ensures { λ p. ⌜ p ≡ place (report r) ⌝ }
+{
+    match r {
+        Report::Quiet => COUNTS,
+        Report::Packet {
+            second: _,
+            length: _,
+        } => PACKETS,
+        Report::Held { count: _, replaced } => { if replaced { HELD_REPLACING } else { HELD } }
+        Report::Refused(n) => {
+            if n < FIRST_REFUSAL {
+                return COUNTS;
+            }
+            if LAST_REFUSAL < n {
+                return COUNTS;
+            }
+            REFUSALS + (n - FIRST_REFUSAL) as usize
+        }
+    }
+}
+
+// A count raised by one.
+fn raised(n: u64) -> u64
+    ensures { λ m. ⌜ m ≡ raised n ⌝ }
+{
+    if LARGEST <= n {
+        return n;
+    }
+    n + 1
+}
+
+// A report noted: one count is raised, or none.
+pub fn note(t: Tally, r: Report) -> Tally
+    ensures { λ x. ⌜ x ≡ note t (report r) ⌝ }
+{
+    let p = place(r);
+    if COUNTS <= p {
+        return t;
+    }
+    let n = t.counts[p];
+    let m = raised(n);
+    let mut next = t;
+    next.counts[p] = m;
+    next
+}
+
+// The same on a tally that is lent.
+pub fn note_in(t: &mut Tally, r: Report)
+    ensures { λ _. ⌜ now (t .exit) ≡ note (now (t .entry)) (report r) ⌝ }
+{
+    *t = note(*t, r);
+}

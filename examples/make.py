@@ -1,0 +1,134 @@
+#!/usr/bin/env python3
+"""Writes the sample captures, and beside each what the independent model (tests/model) prints of it.
+
+    python3 examples/make.py MODEL      MODEL: tests/model/model.rs, compiled
+
+The octets of the line are written by the model's sender, too. The damage is done here, by hand."""
+import os
+import struct
+import subprocess
+import sys
+
+HERE = os.path.dirname(os.path.abspath(__file__))
+MODEL = sys.argv[1]
+FLAG = b"\x7e"
+
+
+def model(mode, given):
+    return subprocess.run([MODEL, mode], input=given, capture_output=True, check=True).stdout
+
+
+def load(letter, packet):
+    return letter + struct.pack("<H", len(packet)) + packet
+
+
+def calls(n):
+    return b"n" + struct.pack("<H", n)
+
+
+def sent(script):
+    """The octets that a fresh sender, both settings on, writes for a script."""
+    lines = model("exercise", b"o\x03" + script).decode().split("\n")
+    return bytes(int(line[2:], 16) for line in lines if line.startswith("O "))
+
+
+def frame(packet):
+    return sent(load(b"l", packet) + calls(5000))
+
+
+def broken_off(packet, at, urgent):
+    """Three frames: the packet, broken off after so many octets; the urgent one; the rest of the packet."""
+    line = sent(load(b"l", packet) + calls(at) + load(b"h", urgent) + calls(9000))
+    frames = line.split(FLAG)
+    assert len(frames) == 4 and frames[3] == b""
+    return [f + FLAG for f in frames[:3]]
+
+
+# ---- packets, as PPP has them: a protocol number, then what it carries
+
+
+def echo_reply(number):
+    return bytes.fromhex("c0210a") + bytes([number]) + bytes.fromhex("0008") + b"KUTA"
+
+
+def sum16(octets):
+    if len(octets) % 2:
+        octets += b"\0"
+    total = sum(struct.unpack(">%dH" % (len(octets) // 2), octets))
+    while total >> 16:
+        total = (total & 0xFFFF) + (total >> 16)
+    return ~total & 0xFFFF
+
+
+def datagram(number, port, text):
+    """An IPv4 datagram with a UDP one in it, from the mountain to the valley."""
+    ends = bytes([10, 0, 7, 2]) + bytes([10, 0, 7, 1])
+    udp = struct.pack(">HHHH", 7007, port, 8 + len(text), 0)
+    check = sum16(ends + struct.pack(">HH", 17, 8 + len(text)) + udp + text) or 0xFFFF
+    udp = struct.pack(">HHHH", 7007, port, 8 + len(text), check)
+    head = struct.pack(">BBHHHBBH", 0x45, 0, 28 + len(text), number, 0, 64, 17, 0) + ends
+    head = head[:10] + struct.pack(">H", sum16(head)) + head[12:]
+    return b"\x00\x21" + head + udp + text
+
+
+def flipped(octets, at, bit):
+    changed = bytearray(octets)
+    changed[at] ^= 1 << bit
+    return bytes(changed)
+
+
+def write(name, octets):
+    for end, text in ((".octets", octets), (".lines", model("capture", octets)), (".counts", model("count", octets))):
+        with open(os.path.join(HERE, name + end), "wb") as f:
+            f.write(text)
+
+
+# ---- document 01's own capture
+
+MARKED = "0C 31 32 33 7E 0C 31 32 33 34 35 36 37 38 39 6E 90 7E D1 09 34 35 36 37 38 39 6E 90 7E D3 7E"
+
+# ---- a quiet link: every packet is sent whole, the line is sound, and between packets flags keep it awake
+
+QUIET = FLAG * 3 + b"".join((
+    frame(echo_reply(1)),
+    frame(datagram(1, 9, b"T-04.2 W11")),
+    FLAG * 2,
+    frame(echo_reply(2)),
+    frame(datagram(2, 9, b"T-04.4 W12")),
+))
+
+# ---- a season later: urgent traffic, and noise
+
+
+def season():
+    batch = datagram(901, 9, b"T-11.0 W31 T-11.3 W33 T-11.4 W30")
+    alarm = datagram(902, 911, b"SNOW")
+    cut, urgent, rest = broken_off(batch, 40, alarm)
+    yield frame(echo_reply(81))[6:]              # the capture begins inside a frame
+    yield frame(echo_reply(82))
+    yield cut                                    # broken off, the urgent packet, resumed
+    yield urgent
+    yield rest
+    yield flipped(frame(echo_reply(83)), 6, 1)   # one bit turned
+    yield frame(echo_reply(84))[:-1]             # its flag is lost, so it runs into the next
+    yield frame(echo_reply(85))
+    yield cut                                    # broken off again, and the rest is hit by noise
+    yield urgent
+    yield flipped(rest, 9, 4)
+    yield cut                                    # broken off, and the rest never arrives
+    yield urgent
+    yield frame(echo_reply(86))
+    other = datagram(903, 9, b"T-11.9 W35 T-12.0 W37 T-12.2 W36")
+    cut2, urgent2, rest2 = broken_off(other, 33, alarm)
+    yield cut2                                   # another is broken off meanwhile, and replaces what is held
+    yield urgent2
+    yield rest2
+    yield rest2                                  # the same rest once more, as after an echo on the line: nothing is held
+    yield b"\xff\x03" + echo_reply(87) + FLAG    # an old modem's framing
+    yield frame(echo_reply(88))
+    yield frame(echo_reply(89))[:-4]             # the capture ends inside a frame
+
+
+write("marked", bytes.fromhex(MARKED))
+write("quiet-link", QUIET)
+write("season-later", b"".join(season()))

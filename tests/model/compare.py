@@ -1,0 +1,835 @@
+#!/usr/bin/env python3
+"""Holds three programs of another team against the model (model.rs).
+
+    python3 compare.py --ours DIR [--octets N] [--calls N] [--seed S] [--save DIR]
+
+DIR/capture, DIR/count and DIR/exercise read standard input and write standard output; the output of
+each must be that of `model capture|count|exercise`, octet for octet, on random inputs made here.
+Exits 0 when nothing differs, 1 at the first difference (input and both outputs are saved) or when a
+run of full size did not see every answer of every call, 2 when a program is missing.
+"""
+import argparse
+import collections
+import os
+import random
+import re
+import subprocess
+import sys
+import tempfile
+
+HERE = os.path.dirname(os.path.abspath(__file__))
+DEFAULT_OCTETS = 10_000_000
+DEFAULT_CALLS = 2_000_000
+TIME_LIMIT = 300
+
+FLAG = b"\x7e"
+CODES = bytes.fromhex("00 01 02 7E CF D0 D1 D2 D3 DF E0 FE FF")
+
+
+# ------------------------------------------------------------------------------------------------
+# Running
+# ------------------------------------------------------------------------------------------------
+
+def run(command, data):
+    """Output and exit status of a program on an input."""
+    try:
+        done = subprocess.run(command, input=data, stdout=subprocess.PIPE, timeout=TIME_LIMIT)
+    except subprocess.TimeoutExpired as late:
+        return late.stdout or b"", f"none, {TIME_LIMIT} seconds being over"
+    return done.stdout, done.returncode
+
+
+class Programs:
+    """The model, the other team's programs, and where a difference is saved."""
+
+    def __init__(self, model, ours, save):
+        self.model, self.ours, self.save = model, ours, save
+
+    def of_model(self, mode, data):
+        out, status = run([self.model, mode], data)
+        if status != 0:
+            sys.exit(f"model {mode} ended with status {status}")
+        return out
+
+    def same(self, mode, data, name):
+        """The model's output, the other team's being the same."""
+        want = self.of_model(mode, data)
+        got, status = run([os.path.join(self.ours, mode)], data)
+        if status != 0 or got != want:
+            self.difference(mode, data, name, want, got, status)
+        return want
+
+    def difference(self, mode, data, name, want, got, status):
+        os.makedirs(self.save, exist_ok=True)
+        base = os.path.join(self.save, f"difference-{mode}")
+        for ending, octets in ((".in", data), (".model", want), (".ours", got)):
+            with open(base + ending, "wb") as file:
+                file.write(octets)
+        print(f"DIFFERENT: {mode}, input {name}, {len(data)} octets, saved as {base}.in")
+        if status != 0:
+            print(f"  {mode} ended with status {status}")
+        wanted, gotten = want.split(b"\n"), got.split(b"\n")
+        for number, (a, b) in enumerate(zip(wanted, gotten), 1):
+            if a != b:
+                print(f"  line {number}: model {a[:200].decode()!r}")
+                print(f"  {' ' * len(str(number))}       ours {b[:200].decode(errors='replace')!r}")
+                break
+        print(f"  lines: model {len(wanted) - 1}, ours {len(gotten) - 1}")
+        sys.exit(1)
+
+
+def build_model(folder):
+    model = os.path.join(folder, "model")
+    subprocess.run(["rustc", "-C", "opt-level=3", "--edition", "2021", "-o", model,
+                    os.path.join(HERE, "model.rs")], check=True)
+    return model
+
+
+# ------------------------------------------------------------------------------------------------
+# Commands of docs/EXERCISE.md
+# ------------------------------------------------------------------------------------------------
+
+def number(n):
+    return bytes((n & 255, n >> 8))
+
+
+def octets(data):
+    return number(len(data)) + data
+
+
+def load_low(packet):
+    return b"l" + octets(packet)
+
+
+def load_high(packet):
+    return b"h" + octets(packet)
+
+
+def next_octets(count):
+    return b"n" + number(count)
+
+
+def receive(data):
+    return b"r" + octets(data)
+
+
+def lend(lengths):
+    return b"a" + b"".join(map(number, lengths))
+
+
+def fill(area, at, data):
+    return b"f" + bytes((area,)) + number(at) + octets(data)
+
+
+def hand_sender(numbers):
+    return b"s" + b"".join(map(number, numbers))
+
+
+def hand_receiver(numbers):
+    return b"t" + b"".join(map(number, numbers))
+
+
+def show(area, at, count):
+    return b"x" + bytes((area,)) + number(at) + number(count)
+
+
+SHOW_STATES = b"d"
+
+
+def fcs(packet):
+    """RFC 1662's FCS, bit by bit, low octet first."""
+    register = 0xFFFF
+    for octet in packet:
+        register ^= octet
+        for _ in range(8):
+            register = (register >> 1) ^ (0x8408 if register & 1 else 0)
+    return number(register ^ 0xFFFF)
+
+
+# ------------------------------------------------------------------------------------------------
+# Random packets
+# ------------------------------------------------------------------------------------------------
+
+def from_set(rng, values, length):
+    return bytes(rng.choices(values, k=length))
+
+
+def zero_free(rng, length):
+    return rng.randbytes(length).replace(b"\0", b"\x01")
+
+
+def zero_heavy(rng, length):
+    """Stretches of zeros and of other octets, of lengths near the limits of the codes."""
+    parts, room = [], length
+    while room > 0:
+        zeros = rng.choice((1, 1, 2, 2, 3, 4, 14, 15, 16, 17, 31))
+        data = rng.choice((0, 1, 2, 5, 29, 30, 31, 32, 205, 206, 207, 208))
+        part = zero_free(rng, data) + bytes(zeros)
+        parts.append(part)
+        room -= len(part)
+    return b"".join(parts)[:length]
+
+
+CONTENTS = (
+    lambda rng, n: rng.randbytes(n),
+    lambda rng, n: rng.randbytes(n),
+    lambda rng, n: bytes(n),
+    zero_heavy,
+    zero_heavy,
+    lambda rng, n: from_set(rng, b"\x7e\x00\xff", n),
+    lambda rng, n: from_set(rng, b"\x7e\xff\x01\xd1", n),
+    zero_free,
+    lambda rng, n: bytes((rng.randrange(256),)) * n,
+)
+
+
+def packet_length(rng):
+    kind = rng.random()
+    if kind < 0.30:
+        return rng.choice((2, 3, 4))
+    if kind < 0.55:
+        return rng.randint(2, 40)
+    if kind < 0.65:
+        return rng.randint(27, 33)
+    if kind < 0.75:
+        return rng.randint(203, 210)
+    if kind < 0.85:
+        return rng.randint(2, 2048)
+    if kind < 0.95:
+        return rng.randint(2046, 2048)
+    return rng.randint(410, 420)
+
+
+def packet(rng, length=None):
+    length = packet_length(rng) if length is None else length
+    return rng.choice(CONTENTS)(rng, length)
+
+
+# ------------------------------------------------------------------------------------------------
+# Captures: what the model's sender sends, then damaged
+# ------------------------------------------------------------------------------------------------
+
+def sound_script(rng, least, urgent):
+    """A script whose sender sends at least so many octets (about)."""
+    parts, sent = [b"o" + bytes((rng.choice((3, 3, 3, 3, 2, 0xFF, 1, 0)),))], 0
+    while sent < least:
+        low = packet(rng)
+        parts.append(load_low(low))
+        sent += len(low) + 4
+        if rng.random() < urgent:
+            for _ in range(rng.choice((1, 1, 2, 3))):
+                high = packet(rng, rng.choice((2, 3, 4, rng.randint(2, 40), rng.randint(2, 300))))
+                parts.append(next_octets(rng.choice((1, 2, 3, rng.randint(1, len(low) + 6)))))
+                parts.append(load_high(high))
+                sent += len(high) + 8
+                if rng.random() < 0.4:
+                    parts.append(next_octets(len(high) + rng.randint(3, 9)))
+        parts.append(next_octets(len(low) + rng.choice((4, 16, 320))))
+    parts.append(next_octets(5000))
+    return b"".join(parts)
+
+
+def sent_octets(out):
+    """The octets of the lines `O XX`."""
+    lines = re.sub(rb"(?m)^[^O\n].*\n", b"", out)
+    digits = bytearray(len(lines) // 5 * 2)
+    digits[0::2] = lines[2::5]
+    digits[1::2] = lines[3::5]
+    return bytes.fromhex(digits.decode())
+
+
+def sound_line(programs, rng, least, urgent=0.5):
+    """Undamaged octets of a line, whole frames."""
+    pieces, have = [], 0
+    while have < least:
+        piece = sent_octets(programs.of_model("exercise", sound_script(rng, min(least - have, 400_000), urgent)))
+        pieces.append(piece)
+        have += len(piece)
+    return b"".join(pieces)
+
+
+def place(rng, data):
+    return rng.randint(0, len(data))
+
+
+def stretch(rng, data, longest):
+    begin = place(rng, data)
+    return begin, min(len(data), begin + rng.randint(1, longest))
+
+
+def flags_of(data):
+    return [match.start() for match in re.finditer(FLAG, data)]
+
+
+def flip_bits(rng, data):
+    data = bytearray(data)
+    for _ in range(rng.choice((1, 1, 2, 8))):
+        if data:
+            data[rng.randrange(len(data))] ^= 1 << rng.randrange(8)
+    return bytes(data)
+
+
+def drop_octets(rng, data):
+    for _ in range(rng.choice((1, 1, 2, 5))):
+        at = place(rng, data)
+        data = data[:at] + data[at + 1:]
+    return data
+
+
+def insert(rng, data, piece):
+    at = place(rng, data)
+    return data[:at] + piece + data[at:]
+
+
+def insert_octets(rng, data):
+    return insert(rng, data, rng.randbytes(rng.choice((1, 1, 2, 5))))
+
+
+def insert_codes(rng, data):
+    return insert(rng, data, from_set(rng, CODES, rng.randint(1, 6)))
+
+
+def lose_stretch(rng, data):
+    begin, end = stretch(rng, data, rng.choice((4, 40, 400)))
+    return data[:begin] + data[end:]
+
+
+def lose_flag(rng, data):
+    flags = flags_of(data)
+    if not flags:
+        return data
+    at = rng.choice(flags)
+    return data[:at] + data[at + 1:]
+
+
+def lose_flags(rng, data):
+    begin, end = stretch(rng, data, 3000)
+    return data[:begin] + data[begin:end].replace(FLAG, b"") + data[end:]
+
+
+def insert_flags(rng, data):
+    for _ in range(rng.choice((1, 1, 3))):
+        data = insert(rng, data, FLAG * rng.choice((1, 1, 2)))
+    return data
+
+
+def repeat_stretch(rng, data):
+    begin, end = stretch(rng, data, rng.choice((4, 60, 1000)))
+    return data[:end] + data[begin:end] * rng.choice((1, 2)) + data[end:]
+
+
+def swap_frames(rng, data):
+    frames = data.split(FLAG)
+    a, b = rng.randrange(len(frames)), rng.randrange(len(frames))
+    frames[a], frames[b] = frames[b], frames[a]
+    return FLAG.join(frames)
+
+
+def repeat_frame(rng, data):
+    frames = data.split(FLAG)
+    a = rng.randrange(len(frames))
+    return FLAG.join(frames[:a + 1] + frames[a:])
+
+
+def lose_resumed(rng, data):
+    """Loses a frame that begins D1, so that what it would have finished goes stale."""
+    frames = data.split(FLAG)
+    resumed = [i for i, frame in enumerate(frames) if frame[:1] == b"\xd1"]
+    if resumed:
+        del frames[rng.choice(resumed)]
+    return FLAG.join(frames)
+
+
+def insert_frame(rng, data):
+    """A frame that is an edge of its own."""
+    some = rng.randbytes(rng.choice((0, 1, 3, 12))).replace(FLAG, b"1")
+    frame = rng.choice((
+        b"\xff\x03\xc0\x21", b"\xff", b"\xff" + some, b"\xd1" + some, b"\xd1", b"\xd1\xff", b"\xd1\xd1", b"\xd1\xd2",
+        b"\xd2" + some, b"\x01", b"\xd3", b"\x02", b"\x05", b"\xe0", b"\xd3" + some,
+        b"\x05" + b"1111", b"\xd0" + b"1" * 207, b"\xd0" + b"1" * 206, b"\xd0" + b"1" * 207 + b"\x01",
+        b"\xd1\x01", b"\xd1\xd0" + b"1" * 207, b"\xcf" + b"1" * 206,
+    ))
+    return insert(rng, data, FLAG + frame + FLAG)
+
+
+def insert_long(rng, data):
+    """A frame that decodes to about 2,051 octets, or far beyond."""
+    runs = rng.randint(134, 138)
+    frame = rng.choice((
+        b"\xdf" * runs + bytes((rng.randint(0xD3, 0xDF),)),
+        b"\xdf" * 136 + rng.choice((b"\xdb", b"\xdc", b"\xda\x01", b"\xda\xe0", b"\xd9\x02\x31", b"\xd9\xe1\x31",
+                                    b"\xd9\x03\x31\x32", b"\xdb\x31", b"\xdb\x01", b"\xdb\x02\x31", b"\xda\x02\x31")),
+        b"\xdf" * rng.randint(137, 3000),
+        (b"\xd0" + b"1" * 207) * rng.choice((9, 10, 11)) + b"\x01",
+        (b"\xcf" + b"1" * 206) * 9 + bytes((rng.randint(0xB8, 0xC4),)) + b"2" * rng.randint(180, 200),
+        b"\xe1\x31" * rng.randint(680, 690),
+        b"\xd1" + b"\xdf" * rng.randint(100, 137),
+        zero_free(rng, 4000).replace(FLAG, b"\x01"),
+    ))
+    return insert(rng, data, FLAG + frame + FLAG)
+
+
+def insert_noise(rng, data):
+    return insert(rng, data, rng.randbytes(rng.choice((10, 100, 2000))))
+
+
+def swap_zero_flag(rng, data):
+    data = bytearray(data)
+    for _ in range(4):
+        at = data.find(rng.choice((0x00, 0x7E)), place(rng, data))
+        if at >= 0:
+            data[at] ^= 0x7E
+    return bytes(data)
+
+
+DAMAGES = (flip_bits, flip_bits, drop_octets, insert_octets, insert_codes, lose_stretch, lose_flag, lose_flags,
+           insert_flags, repeat_stretch, swap_frames, repeat_frame, lose_resumed, lose_resumed, insert_frame,
+           insert_frame, insert_long, insert_noise, swap_zero_flag)
+
+
+def pieces_of(rng, data):
+    at = 0
+    while at < len(data):
+        length = rng.choice((200, 1000, 4000, 12000))
+        yield data[at:at + length]
+        at += length
+
+
+def damaged(rng, data, rate):
+    """About `rate` damages a piece."""
+    parts = []
+    for piece in pieces_of(rng, data):
+        while rng.random() < rate / (1 + rate):
+            piece = rng.choice(DAMAGES)(rng, piece)
+        parts.append(piece)
+    return b"".join(parts)
+
+
+def captures(programs, rng, total):
+    """Named captures, about `total` octets in all."""
+    yield "empty", b""
+    yield "every octet", b"".join(bytes((o,)) + b"\x31\x32\x7e" for o in range(256))
+    for first in range(256):
+        yield f"octet {first}", bytes((first,))
+    pool = sound_line(programs, rng, max(20_000, total // 3))
+    for n in range(200):
+        begin, end = stretch(rng, pool, rng.choice((8, 60, 600, 6000)))
+        yield f"short cut {n}", pool[begin:end]
+        yield f"short damaged {n}", damaged(rng, pool[begin:end], rng.choice((0.5, 2, 6)))
+        yield f"short codes {n}", from_set(rng, CODES + FLAG * 3 + b"\x31\x05", rng.randint(0, 80))
+    yield "sound", pool
+    yield "sound, cut in a frame", pool[:-rng.randint(2, 300)]
+    yield "codes", from_set(rng, CODES + FLAG + b"\x31\x05\x06", total // 20)
+    yield "noise", rng.randbytes(total // 20)
+    yield "noise, few flags", rng.randbytes(total // 40).replace(FLAG, b"\x00")
+    left = total
+    while left > 0:
+        urgent = rng.choice((0, 0.5, 1))
+        line = sound_line(programs, rng, min(left, rng.choice((30_000, 300_000, 2_000_000))), urgent)
+        line = damaged(rng, line, rng.choice((0.2, 0.7, 2)))
+        line = line[:-rng.randint(1, 50)] if rng.random() < 0.3 else line
+        left -= len(line)
+        yield f"damaged, {left} to go", line
+
+
+class Seen:
+    """What the compared runs showed."""
+
+    def __init__(self):
+        self.octets = self.captures = self.scripts = self.calls = 0
+        self.reports = collections.Counter()
+        self.answers = collections.Counter()
+
+
+def compare_captures(programs, rng, total, seen):
+    for name, data in captures(programs, rng, total):
+        lines = programs.same("capture", data, name)
+        counts = programs.same("count", data, name)
+        reports = 0
+        for line in counts.decode().splitlines():
+            kind, count = line.split()
+            seen.reports[kind] += int(count)
+            reports += int(count)
+        if reports != lines.count(b"\n"):
+            sys.exit(f"capture and count of the model do not agree on {name}")
+        seen.octets += len(data)
+        seen.captures += 1
+
+
+# ------------------------------------------------------------------------------------------------
+# Exercise scripts
+# ------------------------------------------------------------------------------------------------
+
+EDGES = (0, 1, 2, 3, 4, 5, 6, 10, 11, 206, 207, 208, 2048, 2049, 2050, 2051, 2052, 2053, 65535)
+
+
+def edge(rng, around):
+    """A value near one that matters."""
+    kind = rng.random()
+    if kind < 0.55:
+        return max(0, min(65535, around + rng.choice((-2, -1, 1, 1, 2))))
+    if kind < 0.9:
+        return rng.choice(EDGES)
+    return rng.randrange(65536)
+
+
+def settings(rng):
+    return rng.choice((0, 1, 2, 3, 3, 3, 3, 0xFC, 0xFD, 0xFE, 0xFF, rng.randrange(256)))
+
+
+def lane_numbers(rng):
+    length = rng.choice((0, 0, 4, 5, 30, 33, 209, 210, 2049, 2050, rng.randint(4, 2050)))
+    if length == 0:
+        return 0, rng.choice((0, 0, 0, 1))
+    return length, rng.choice((0, 0, 1, length - 1, length, length + 1, rng.randint(0, length + 1)))
+
+
+def sender_state(rng):
+    """The ten numbers of a sender state in bounds."""
+    low, high = lane_numbers(rng), lane_numbers(rng)
+    line = rng.choice([0] + [1] * 2 * (low[0] > 0) + [2] * 2 * (high[0] > 0))
+    left = zeros = 0
+    if line:
+        length, position = low if line == 1 else high
+        room = length + 1 - position
+        left = min(room, rng.choice((0, 0, 1, 2, 30, 206, 207, rng.randint(0, 207))))
+        zeros = min(room - left, rng.choice((0, 1, 2))) if left else 0
+    suspended = int(low[0] > 0 and line != 1 and rng.random() < 0.5)
+    cut_due = int(line == 1 and left == 0 and rng.random() < 0.3)
+    return [settings(rng), *low, *high, left, zeros, line, suspended, cut_due]
+
+
+def receiver_state(rng):
+    """The ten numbers of a receiver state in bounds."""
+    held = rng.choice((0, 0, 1, 2, 6, 2050, 2051, 2052, rng.randint(0, 2052)))
+    turn = rng.randrange(2)
+    if rng.random() < 0.25:
+        return [settings(rng), turn, 0, held, 0, 0, 0, 0, 0, 0]
+    decoded = rng.choice((0, 0, 0, 1, 2, 4, 5, 6, 2043, 2048, 2049, 2050, 2051, rng.randint(0, 2051)))
+    left = rng.choice((0, 0, 0, 0, 1, 1, 2, 206, 207, rng.randint(0, 207)))
+    zeros, last, resumed = rng.randrange(3), rng.randrange(3), rng.randrange(2)
+    refusal = rng.choice((0, 0, 0, 0, rng.randint(5, 10)))
+    if refusal == 0 and last == 0:
+        resumed = 1
+    if refusal == 0 and last == 2 and left == 0 and decoded == 0:
+        decoded = 1
+    return [settings(rng), turn, decoded, held, left, zeros, last, 1, resumed, refusal]
+
+
+def just_beyond(rng):
+    """A sender state beyond one limit alone, where a single number seldom comes to it by chance."""
+    line = rng.choice((1, 2))
+    lane, other = (rng.randint(300, 2050), rng.randint(0, 90)), (0, 0)
+    low, high = (lane, other) if line == 1 else (other, lane)
+    left, zeros = rng.choice(((208, 0), (208, 2), (209, 1), (207, 3), (1, 3), (0, 1), (0, 2)))
+    return [settings(rng), *low, *high, left, zeros, line, 0, 0]
+
+
+def disturbed(rng, state, work=None):
+    """One number or a few put to an edge. The work area is left at 0 or 1 (docs/EXERCISE.md has it modulo 2)."""
+    if rng.random() < 0.45:
+        return state
+    state = list(state)
+    for _ in range(rng.choice((1, 1, 1, 2, 4))):
+        at = rng.randrange(1, 10)
+        state[at] = rng.randrange(2) if at == work else edge(rng, state[at])
+    return state
+
+
+def area_lengths(rng):
+    if rng.random() < 0.5:
+        return [2050, 2050, 2051, 2051]
+    lengths = [rng.choice((2050, 4096)), rng.choice((2050, 4096)), rng.choice((2051, 4096)), rng.choice((2051, 4096))]
+    for _ in range(rng.choice((0, 1, 1, 4))):
+        lengths[rng.randrange(4)] = rng.choice((2049, 2050, 2050, 2051, 0, 1, 4096, 4097, 65535))
+    return lengths
+
+
+def area_octets(rng):
+    return packet(rng, rng.choice((4, 40, 300, 2051, 2051)))
+
+
+def line_octets(rng):
+    """Octets for the receiver, meaningful ones most."""
+    kind = rng.random()
+    if kind < 0.5:
+        return from_set(rng, CODES + FLAG * 3 + b"\x31\x05", rng.choice((1, 1, 1, 2, 3, 6, 20)))
+    if kind < 0.6:
+        return rng.randbytes(rng.choice((1, 2, 30, 300)))
+    if kind < 0.7:
+        return FLAG
+    if kind < 0.8:
+        return b"\xd1" * rng.randrange(2) + bytes((rng.randint(1, 6),)) + b"1111" + FLAG * rng.randrange(2)
+    if kind < 0.85:
+        return b"\xdf" * rng.randint(130, 138) + FLAG
+    if kind < 0.9:
+        return b"\xd0" + b"1" * rng.randint(204, 208) + FLAG * rng.randrange(2)
+    return zero_free(rng, rng.randint(1, 260)) + FLAG
+
+
+class Script:
+    """A script and what each of its commands is, so that its output can be told apart."""
+
+    def __init__(self):
+        self.parts = []
+        self.kinds = []
+
+    def add(self, command, kind=None, calls=0):
+        self.parts.append(command)
+        self.kinds.append((kind, calls))
+
+    def octets(self):
+        return b"".join(self.parts)
+
+    def load(self, lane, data):
+        self.add(load_high(data) if lane else load_low(data), "load", 1)
+
+    def next(self, count):
+        self.add(next_octets(count), "next octet", count)
+
+    def states(self):
+        self.add(SHOW_STATES, "states")
+
+    def show(self, area, at, count):
+        self.add(show(area, at, count), "area")
+
+    def receive(self, data):
+        """Always followed by both states, so that its lines end at an `S`."""
+        self.add(receive(data), "receiver", len(data))
+        self.states()
+
+
+def show_some(rng, script, area, near):
+    kind = rng.random()
+    if kind < 0.6:
+        script.show(area, max(0, min(65535, near - 4)), 14)
+    elif kind < 0.8:
+        script.show(rng.randrange(256), rng.choice((0, 1, 2040, 2049, 4090, 4095, 4096, 65535)),
+                    rng.choice((0, 1, 6, 20)))
+    elif kind < 0.84:
+        script.show(area, 0, 4096)
+
+
+def add_load(rng, script):
+    lane = rng.randrange(2)
+    length = rng.choice((0, 1, 2, 3, 4, 9, 40, 206, 2047, 2048, 2049, 2050, rng.randint(0, 300)))
+    script.load(lane, packet(rng, length))
+    if rng.random() < 0.6:
+        script.states()
+    show_some(rng, script, lane, length)
+
+
+def add_sends(rng, script):
+    """Next-octet calls, one by one or many."""
+    for _ in range(rng.choice((1, 2, 4))):
+        script.next(rng.choice((0, 1, 1, 1, 1, 1, 2, 3, 9, rng.randint(1, 220))))
+        if rng.random() < 0.7:
+            script.states()
+        if rng.random() < 0.1:
+            show_some(rng, script, rng.randrange(2), rng.choice((4, 2050)))
+
+
+def add_sender_state(rng, script):
+    state = just_beyond(rng) if rng.random() < 0.05 else disturbed(rng, sender_state(rng))
+    script.add(hand_sender(state))
+    if rng.random() < 0.3:
+        area = rng.randrange(2)
+        script.add(fill(area + 4 * rng.randrange(3), rng.choice((0, 0, 0, 3, 2040, 4090)), area_octets(rng)))
+    if rng.random() < 0.3:
+        add_load(rng, script)
+    add_sends(rng, script)
+
+
+def add_receiver_state(rng, script):
+    state = disturbed(rng, receiver_state(rng), work=1)
+    script.add(hand_receiver(state))
+    if rng.random() < 0.15:
+        script.add(fill(2 + rng.randrange(2), rng.choice((0, 0, 2040)), area_octets(rng)))
+    for _ in range(rng.choice((1, 1, 2, 4))):
+        script.receive(line_octets(rng))
+        show_some(rng, script, 2 + rng.randrange(2), state[2])
+
+
+def add_decoded_frame(rng, script):
+    """A state handed in with a whole frame, good or nearly, decoded in one of the areas."""
+    frame = packet(rng, rng.choice((0, 1, 2, 3, 30, 2047, 2048)))
+    frame += fcs(frame) + b"\0"
+    if rng.random() < 0.3:
+        frame = flip_bits(rng, frame)
+    turn = rng.randrange(2)
+    script.add(fill(2 + turn, 0, frame))
+    state = [settings(rng), turn, len(frame), rng.choice((0, 0, 1, 6, 2052)), 0, 0, 2, 1, rng.randrange(2), 0]
+    if rng.random() < 0.3:
+        state = disturbed(rng, state, work=1)
+    script.add(hand_receiver(state))
+    script.receive(FLAG)
+    script.receive(rng.choice((FLAG, b"\xd1\x02\x31\x7e", b"\x05\x31\x7e")))
+    show_some(rng, script, 2 + turn, len(frame))
+
+
+def add_held_frame(rng, script):
+    """A state handed in with the beginning of a good frame held; the rest arrives after D1."""
+    whole = zero_free(rng, rng.choice((2, 9, 100)))
+    whole += fcs(whole)
+    if 0 in whole:
+        return
+    cut, turn = rng.randint(0, len(whole)), rng.randrange(2)
+    script.add(fill(3 - turn, 0, whole[:cut]))
+    script.add(hand_receiver([rng.choice((2, 3, 3, 1)), turn, 0, cut + 1, 0, 0, 0, 0, 0, 0]))
+    rest = whole[cut:]
+    script.receive(b"\xd1" + bytes((len(rest) + 1,)).replace(FLAG, b"\0") + rest.replace(FLAG, b"\0") + FLAG)
+    show_some(rng, script, 3 - turn, cut)
+
+
+def add_line(rng, script, pool):
+    """A stretch of a line, sound or damaged, received from fresh or going on."""
+    if rng.random() < 0.6:
+        script.add(b"O" + bytes((settings(rng),)))
+    begin, end = stretch(rng, pool, rng.choice((60, 60, 300, 300, 3000)))
+    data = pool[begin:end]
+    if rng.random() < 0.6:
+        data = damaged(rng, data, 1)[:60000]
+    script.receive(data)
+    show_some(rng, script, 2 + rng.randrange(2), 5)
+
+
+def add_session(rng, script):
+    """Loads and sends of an opened sender."""
+    script.add(b"o" + bytes((settings(rng),)))
+    for _ in range(rng.choice((1, 3, 6))):
+        add_load(rng, script)
+        add_sends(rng, script)
+
+
+def any_script(rng, pool):
+    script = Script()
+    for _ in range(rng.choice((1, 5, 40, 120))):
+        if rng.random() < 0.15:
+            script.add(lend(area_lengths(rng)))
+        kind = rng.random()
+        if kind < 0.35:
+            add_sender_state(rng, script)
+        elif kind < 0.72:
+            add_receiver_state(rng, script)
+        elif kind < 0.80:
+            add_decoded_frame(rng, script)
+        elif kind < 0.87:
+            add_held_frame(rng, script)
+        elif kind < 0.90:
+            add_line(rng, script, pool)
+        else:
+            add_session(rng, script)
+    return script
+
+
+def broken_script(rng, script):
+    """Cut short, or with an octet that is no command between two commands."""
+    if rng.random() < 0.5:
+        whole = script.octets()
+        return whole[:rng.randint(0, len(whole))]
+    parts = list(script.parts)
+    unknown = rng.choice([o for o in range(256) if o not in b"oOlhnrafstdx"])
+    parts.insert(rng.randint(0, len(parts)), bytes((unknown,)) + rng.randbytes(3))
+    return b"".join(parts)
+
+
+def answer_of(line):
+    """An answer's kind and number, without its octets."""
+    fields = line.split(None, 3)
+    if fields[0] in ("R", "H"):
+        return f"R {fields[1]}" if fields[0] == "R" else f"H replaced {fields[2]}"
+    return f"P area {fields[1]}" if fields[0] == "P" else fields[0]
+
+
+def note_answers(script, out, seen):
+    """Tells the lines of a whole script's output apart, call by call."""
+    lines = out.decode().split("\n")
+    at = 0
+    for kind, calls in script.kinds:
+        seen.calls += calls
+        if kind in ("load", "next octet"):
+            for line in lines[at:at + calls]:
+                seen.answers[kind, answer_of(line)] += 1
+            at += calls
+        elif kind == "receiver":
+            begin = at
+            while lines[at][0] != "S":
+                seen.answers[kind, answer_of(lines[at])] += 1
+                at += 1
+            seen.answers[kind, "Quiet"] += calls - (at - begin)
+        elif kind == "states":
+            at += 2
+        elif kind == "area":
+            at += 1
+    if lines[at:] != [""]:
+        sys.exit("the model wrote other lines than its script asks for")
+
+
+def compare_scripts(programs, rng, total, seen):
+    pool = sound_line(programs, rng, 200_000, 0.8)
+    for name, data in (("nothing", b""), ("unknown", b"?"), ("states", b"d"), ("cut short", b"dn\x05")):
+        programs.same("exercise", data, name)
+        seen.scripts += 1
+    while seen.calls < total:
+        script = any_script(rng, pool)
+        note_answers(script, programs.same("exercise", script.octets(), f"script {seen.scripts}"), seen)
+        seen.scripts += 1
+        if rng.random() < 0.2:
+            programs.same("exercise", broken_script(rng, script), f"broken script {seen.scripts}")
+            seen.scripts += 1
+
+
+# ------------------------------------------------------------------------------------------------
+# What must be seen
+# ------------------------------------------------------------------------------------------------
+
+REPORTS = (["packets", "held", "held-replaced"]
+           + [f"refused-{n}" for n in range(5, 15) if n not in (6, 11)])  # 6 and 11 need other settings than 03
+ANSWERS = ([("load", a) for a in ("D", "R 1", "R 2", "R 3", "R 4")]
+           + [("next octet", a) for a in ("O", "I", "R 2", "R 3")]
+           + [("receiver", a) for a in ("Quiet", "P area 0", "P area 1", "H replaced 0", "H replaced 1")]
+           + [("receiver", f"R {n}") for n in (2, 3, *range(5, 15))])
+
+
+def print_seen(seen):
+    print(f"captures: {seen.captures}, octets compared: {seen.octets}")
+    print("reports seen: " + ", ".join(f"{kind} {count}" for kind, count in seen.reports.items()))
+    print(f"scripts: {seen.scripts}, calls compared: {seen.calls}")
+    for call in ("load", "next octet", "receiver"):
+        print(f"answers of {call}: " + ", ".join(
+            f"{answer} {seen.answers[c, answer]}" for c, answer in ANSWERS if c == call))
+    missing = [kind for kind in REPORTS if not seen.reports[kind]]
+    missing += [f"{call} {answer}" for call, answer in ANSWERS if not seen.answers[call, answer]]
+    strange = [f"{call} {answer}" for call, answer in seen.answers if (call, answer) not in ANSWERS]
+    print("not seen: " + (", ".join(missing) or "none"))
+    if strange:
+        print("not known: " + ", ".join(strange))
+    return missing + strange
+
+
+def main():
+    parser = argparse.ArgumentParser(description="holds DIR/capture, DIR/count, DIR/exercise against the model")
+    parser.add_argument("--ours", required=True, metavar="DIR")
+    parser.add_argument("--octets", type=int, default=DEFAULT_OCTETS)
+    parser.add_argument("--calls", type=int, default=DEFAULT_CALLS)
+    parser.add_argument("--seed", type=int, default=1)
+    parser.add_argument("--save", default=".", metavar="DIR", help="where a difference is saved")
+    asked = parser.parse_args()
+    for mode in ("capture", "count", "exercise"):
+        program = os.path.join(asked.ours, mode)
+        if not (os.path.isfile(program) and os.access(program, os.X_OK)):
+            print(f"missing program: {program}")
+            sys.exit(2)
+    seen = Seen()
+    with tempfile.TemporaryDirectory() as folder:
+        programs = Programs(build_model(folder), asked.ours, asked.save)
+        compare_captures(programs, random.Random(asked.seed), asked.octets, seen)
+        compare_scripts(programs, random.Random(asked.seed + 1_000_000), asked.calls, seen)
+    missing = print_seen(seen)
+    print("0 differ")
+    if missing and asked.octets >= DEFAULT_OCTETS and asked.calls >= DEFAULT_CALLS:
+        sys.exit(1)
+
+
+if __name__ == "__main__":
+    main()

@@ -1,0 +1,1312 @@
+//! An independent model of the COBS link of document 01 (settings ZXE and PRE, two lanes, two
+//! receive areas). Written from document 01 alone; "01" in the comments is that document, and
+//! "step n" its numbered step. A comment `Reading:` marks a place where its words were weighed.
+//!
+//!     rustc -C opt-level=3 --edition 2021 -o model model.rs
+//!
+//!     model capture    raw octets -> one line a report
+//!     model count      raw octets -> the thirteen counts of the tally
+//!     model exercise   commands of docs/EXERCISE.md -> one line an answer
+
+use std::io::{self, Read, Write};
+
+// ---------------------------------------------------------------------------------------------
+// Values of the field
+// ---------------------------------------------------------------------------------------------
+
+/// Closes a frame.
+const FLAG: u8 = 0x7E;
+/// Stands for 7E inside a frame, in codes and in data.
+const STAND_IN: u8 = 0x00;
+/// First octet of a resumed frame.
+const RESUME: u8 = 0xD1;
+/// The code sent only to be broken off by the flag that follows it.
+const BREAK_CODE: u8 = 0x02;
+/// Code of a full block: 207 data octets and no zero.
+const FULL_CODE: u8 = 0xD0;
+/// Run codes D3-DF are this and the count of zeros.
+const RUN_BASE: u8 = 0xD0;
+/// Codes E0-FE are this and the count of data octets.
+const PAIR_BASE: u8 = 0xE0;
+
+/// Data octets of a full block.
+const FULL_BLOCK: usize = 207;
+/// Most data octets of a block that ends in two zeros.
+const PAIR_BLOCK: usize = 30;
+/// Fewest and most zeros of a run code.
+const RUN_FEWEST: usize = 3;
+const RUN_MOST: usize = 15;
+
+const FCS_LENGTH: usize = 2;
+const PACKET_SHORTEST: usize = 2;
+const PACKET_LONGEST: usize = 2048;
+/// A frame is a packet and its FCS.
+const FRAME_SHORTEST: usize = PACKET_SHORTEST + FCS_LENGTH;
+const FRAME_LONGEST: usize = PACKET_LONGEST + FCS_LENGTH;
+/// Most decoded octets: the longest frame and its phantom.
+const DECODED_MOST: usize = FRAME_LONGEST + 1;
+
+const SENDER_AREA: usize = FRAME_LONGEST;
+const RECEIVER_AREA: usize = DECODED_MOST;
+
+/// Numbers of 01's refusal table.
+mod refusal {
+    pub const PACKET_LENGTH: u8 = 1;
+    pub const AREA_SHORT: u8 = 2;
+    pub const STATE: u8 = 3;
+    pub const LANE_HOLDS: u8 = 4;
+    pub const BEGINS_FF: u8 = 5;
+    pub const NOT_AGREED: u8 = 6;
+    pub const NO_SUCH_CODE: u8 = 7;
+    pub const NOTHING_HELD: u8 = 8;
+    pub const RESUME_ALONE: u8 = 9;
+    pub const TOO_MUCH: u8 = 10;
+    pub const ENDS_IN_BLOCK: u8 = 11;
+    pub const LAST_FULL: u8 = 12;
+    pub const TOO_LITTLE: u8 = 13;
+    pub const FCS: u8 = 14;
+    /// The first and last that refuse a frame.
+    pub const FRAME_FIRST: u8 = BEGINS_FF;
+    pub const FRAME_LAST: u8 = FCS;
+}
+
+/// The settings octet; bits other than these two are kept and ignored.
+#[derive(Clone, Copy, Default)]
+struct Settings(u8);
+
+impl Settings {
+    const BOTH: Settings = Settings(0x03);
+
+    /// Codes D3-FE are allowed.
+    fn zxe(self) -> bool {
+        self.0 & 0x01 != 0
+    }
+
+    /// Preemption is allowed.
+    fn pre(self) -> bool {
+        self.0 & 0x02 != 0
+    }
+}
+
+// ---------------------------------------------------------------------------------------------
+// Check sequence
+// ---------------------------------------------------------------------------------------------
+
+const REGISTER_START: u16 = 0xFFFF;
+const REGISTER_GOOD: u16 = 0xF0B8;
+
+static FCS_TABLE: [u16; 256] = fcs_table();
+
+/// An entry of the table: its place, halved eight times, with 8408 xored in wherever a one falls out.
+const fn fcs_entry(place: u16) -> u16 {
+    let mut entry = place;
+    let mut step = 0;
+    while step < 8 {
+        entry = if entry % 2 == 1 {
+            (entry / 2) ^ 0x8408
+        } else {
+            entry / 2
+        };
+        step += 1;
+    }
+    entry
+}
+
+const fn fcs_table() -> [u16; 256] {
+    let mut table = [0; 256];
+    let mut place = 0;
+    while place < 256 {
+        table[place] = fcs_entry(place as u16);
+        place += 1;
+    }
+    table
+}
+
+/// The register after all of `octets`, from its start value.
+fn register_over(octets: &[u8]) -> u16 {
+    octets.iter().fold(REGISTER_START, |register, &octet| {
+        (register >> 8) ^ FCS_TABLE[usize::from(register as u8 ^ octet)]
+    })
+}
+
+/// The FCS as it follows the packet: complement of the register, low octet first.
+fn fcs_of(packet: &[u8]) -> [u8; FCS_LENGTH] {
+    (!register_over(packet)).to_le_bytes()
+}
+
+// ---------------------------------------------------------------------------------------------
+// Code blocks
+// ---------------------------------------------------------------------------------------------
+
+/// What a code octet says: so many data octets, then so many zeros.
+#[derive(Clone, Copy)]
+struct Block {
+    data: usize,
+    zeros: usize,
+}
+
+/// The code table. None for D1, D2, FF and zero, which are no codes.
+fn block_of(code: u8) -> Option<Block> {
+    match code {
+        0x01..=0xCF => Some(Block {
+            data: usize::from(code) - 1,
+            zeros: 1,
+        }),
+        0xD0 => Some(Block {
+            data: FULL_BLOCK,
+            zeros: 0,
+        }),
+        0xD3..=0xDF => Some(Block {
+            data: 0,
+            zeros: usize::from(code - RUN_BASE),
+        }),
+        0xE0..=0xFE => Some(Block {
+            data: usize::from(code - PAIR_BASE),
+            zeros: 2,
+        }),
+        0x00 | 0xD1 | 0xD2 | 0xFF => None,
+    }
+}
+
+/// Codes that only ZXE allows.
+fn needs_zxe(code: u8) -> bool {
+    (0xD3..=0xFE).contains(&code)
+}
+
+/// An octet inside a frame as it goes on the line.
+fn to_line(octet: u8) -> u8 {
+    if octet == FLAG {
+        STAND_IN
+    } else {
+        octet
+    }
+}
+
+/// An octet inside a frame as it was before it went on the line.
+fn from_line(octet: u8) -> u8 {
+    if octet == STAND_IN {
+        FLAG
+    } else {
+        octet
+    }
+}
+
+/// D: a frame and its phantom zero.
+#[derive(Clone, Copy)]
+struct Phantomed<'a> {
+    frame: &'a [u8],
+}
+
+impl Phantomed<'_> {
+    /// The octet at a place; None beyond the phantom.
+    fn at(self, place: usize) -> Option<u8> {
+        if place == self.frame.len() {
+            Some(0)
+        } else {
+            self.frame.get(place).copied()
+        }
+    }
+
+    /// How many zeros stand from `place` on, stopped at `most`.
+    fn zeros_from(self, place: usize, most: usize) -> usize {
+        (0..most)
+            .take_while(|&n| self.at(place + n) == Some(0))
+            .count()
+    }
+
+    /// How many non-zero octets stand from `place` on, stopped at 207.
+    fn data_from(self, place: usize) -> usize {
+        (0..FULL_BLOCK)
+            .take_while(|&n| self.at(place + n).is_some_and(|octet| octet != 0))
+            .count()
+    }
+
+    /// The sender's choice at the rest of D that begins at `place`.
+    fn choose_code(self, place: usize, settings: Settings) -> u8 {
+        let run = self.zeros_from(place, RUN_MOST);
+        if settings.zxe() && run >= RUN_FEWEST {
+            return RUN_BASE + run as u8;
+        }
+        let k = self.data_from(place);
+        if k == FULL_BLOCK {
+            FULL_CODE
+        } else if settings.zxe() && k <= PAIR_BLOCK && self.zeros_from(place + k, 2) == 2 {
+            PAIR_BASE + k as u8
+        } else {
+            k as u8 + 1
+        }
+    }
+}
+
+// ---------------------------------------------------------------------------------------------
+// Sender
+// ---------------------------------------------------------------------------------------------
+
+#[derive(Clone, Copy, PartialEq, Eq)]
+enum LaneName {
+    Low,
+    High,
+}
+
+#[derive(Clone, Copy, Default)]
+struct Lane {
+    /// Frame length; 0 when empty.
+    length: usize,
+    /// Place in D up to which it is covered.
+    position: usize,
+}
+
+impl Lane {
+    fn loaded(self) -> bool {
+        self.length != 0
+    }
+
+    /// The whole D, phantom too, is covered.
+    fn covered(self) -> bool {
+        self.position == self.length + 1
+    }
+
+    fn in_bounds(self) -> bool {
+        (self.length == 0 || (FRAME_SHORTEST..=FRAME_LONGEST).contains(&self.length))
+            && self.position <= self.length + 1
+    }
+}
+
+/// The answer of a load.
+enum Loaded {
+    Done,
+    Refused(u8),
+}
+
+/// The answer of a next-octet call.
+enum Next {
+    Octet(u8),
+    Idle,
+    Refused(u8),
+}
+
+#[derive(Clone, Copy, Default)]
+struct Sender {
+    settings: Settings,
+    low: Lane,
+    high: Lane,
+    /// Data octets left in the block.
+    left: usize,
+    /// Zeros due after them.
+    zeros: usize,
+    on_line: Option<LaneName>,
+    suspended: bool,
+    cut_due: bool,
+}
+
+impl Sender {
+    fn open(settings: Settings) -> Sender {
+        Sender {
+            settings,
+            ..Sender::default()
+        }
+    }
+
+    fn lane(&self, name: LaneName) -> Lane {
+        match name {
+            LaneName::Low => self.low,
+            LaneName::High => self.high,
+        }
+    }
+
+    fn lane_mut(&mut self, name: LaneName) -> &mut Lane {
+        match name {
+            LaneName::Low => &mut self.low,
+            LaneName::High => &mut self.high,
+        }
+    }
+
+    /// 01's paragraph "In bounds", the sender's part, clause by clause.
+    fn in_bounds(&self) -> bool {
+        let low_on_line = self.on_line == Some(LaneName::Low);
+        self.low.in_bounds()
+            && self.high.in_bounds()
+            && self.left <= FULL_BLOCK
+            && self.zeros <= 2
+            && self.line_in_bounds()
+            && (self.zeros == 0 || self.left != 0)
+            && (!self.suspended || self.low.loaded())
+            && !(low_on_line && self.suspended)
+            && (!self.cut_due || (low_on_line && self.left == 0))
+    }
+
+    /// The clauses that hang on which lane is on the line.
+    // Reading: the sum of position, left and zeros is bounded for the lane on the line, since left
+    // and zeros are its block's; with no lane there both are 0 and the clause says nothing new.
+    fn line_in_bounds(&self) -> bool {
+        match self.on_line {
+            None => self.left == 0 && self.zeros == 0,
+            Some(name) => {
+                let lane = self.lane(name);
+                lane.loaded() && lane.position + self.left + self.zeros <= lane.length + 1
+            }
+        }
+    }
+
+    /// Load of a lane, lent that lane's area.
+    fn load(&mut self, name: LaneName, area: &mut [u8], packet: &[u8]) -> Loaded {
+        // Refusals of a call in the order 2, 3, 4, 1.
+        if area.len() < SENDER_AREA {
+            return Loaded::Refused(refusal::AREA_SHORT);
+        }
+        if !self.in_bounds() {
+            return Loaded::Refused(refusal::STATE);
+        }
+        if self.lane(name).loaded() {
+            return Loaded::Refused(refusal::LANE_HOLDS);
+        }
+        if !(PACKET_SHORTEST..=PACKET_LONGEST).contains(&packet.len()) {
+            return Loaded::Refused(refusal::PACKET_LENGTH);
+        }
+        let length = packet.len() + FCS_LENGTH;
+        area[..packet.len()].copy_from_slice(packet);
+        area[packet.len()..length].copy_from_slice(&fcs_of(packet));
+        *self.lane_mut(name) = Lane {
+            length,
+            position: 0,
+        };
+        Loaded::Done
+    }
+
+    /// Next octet, lent both areas.
+    fn next_octet(&mut self, low_area: &[u8], high_area: &[u8]) -> Next {
+        if low_area.len() < SENDER_AREA || high_area.len() < SENDER_AREA {
+            return Next::Refused(refusal::AREA_SHORT);
+        }
+        if !self.in_bounds() {
+            return Next::Refused(refusal::STATE);
+        }
+        // Step 1.
+        if self.cut_due {
+            return self.cut();
+        }
+        // Step 2.
+        let name = match self.on_line.or_else(|| self.lane_to_go()) {
+            Some(name) => name,
+            None => return Next::Idle,
+        };
+        let just_put_on_line = self.on_line.is_none();
+        self.on_line = Some(name);
+        if just_put_on_line && name == LaneName::Low && self.suspended {
+            return self.resume_low();
+        }
+        let area = match name {
+            LaneName::Low => low_area,
+            LaneName::High => high_area,
+        };
+        self.send_from(name, area)
+    }
+
+    /// Steps 3 to 6, with `name` on the line.
+    fn send_from(&mut self, name: LaneName, area: &[u8]) -> Next {
+        let lane = self.lane(name);
+        // Step 3.
+        if lane.covered() {
+            return self.close(name);
+        }
+        // Step 4.
+        if name == LaneName::Low && self.settings.pre() && self.high.loaded() {
+            return if self.left > 0 {
+                self.cut()
+            } else {
+                self.make_cut_due()
+            };
+        }
+        let d = Phantomed {
+            frame: &area[..lane.length],
+        };
+        // Steps 5 and 6.
+        if self.left > 0 {
+            self.send_data(name, d)
+        } else {
+            self.send_code(name, d)
+        }
+    }
+
+    /// Step 2's choice of a lane: a loaded high one goes first.
+    fn lane_to_go(&self) -> Option<LaneName> {
+        if self.high.loaded() {
+            Some(LaneName::High)
+        } else if self.low.loaded() {
+            Some(LaneName::Low)
+        } else {
+            None
+        }
+    }
+
+    /// Step 2: a suspended low lane sends D1 and begins a fresh block.
+    fn resume_low(&mut self) -> Next {
+        self.suspended = false;
+        self.left = 0;
+        self.zeros = 0;
+        Next::Octet(RESUME)
+    }
+
+    /// Steps 1 and 4: the flag that breaks the low lane off.
+    fn cut(&mut self) -> Next {
+        self.cut_due = false;
+        self.left = 0;
+        self.zeros = 0;
+        self.suspended = true;
+        self.on_line = None;
+        Next::Octet(FLAG)
+    }
+
+    /// Step 4 between blocks: a code to be broken off by the next call.
+    fn make_cut_due(&mut self) -> Next {
+        self.cut_due = true;
+        Next::Octet(BREAK_CODE)
+    }
+
+    /// Step 3: the flag that closes the frame.
+    fn close(&mut self, name: LaneName) -> Next {
+        *self.lane_mut(name) = Lane::default();
+        self.on_line = None;
+        Next::Octet(FLAG)
+    }
+
+    /// Step 5: the next data octet, and with the last the zeros due.
+    // Reading: "the next" is the octet of D at the position, so where a state handed in has data
+    // left at the phantom's place, the phantom (zero) is sent, whatever the area holds there.
+    fn send_data(&mut self, name: LaneName, d: Phantomed) -> Next {
+        let octet = d.at(self.lane(name).position).unwrap_or(0);
+        self.left -= 1;
+        self.lane_mut(name).position += 1;
+        if self.left == 0 {
+            self.lane_mut(name).position += self.zeros;
+            self.zeros = 0;
+        }
+        Next::Octet(to_line(octet))
+    }
+
+    /// Step 6: the code of a block; zeros without data are covered by it.
+    fn send_code(&mut self, name: LaneName, d: Phantomed) -> Next {
+        let code = d.choose_code(self.lane(name).position, self.settings);
+        let block = block_of(code).unwrap_or(Block { data: 0, zeros: 0 });
+        if block.data == 0 {
+            self.lane_mut(name).position += block.zeros;
+        } else {
+            self.left = block.data;
+            self.zeros = block.zeros;
+        }
+        Next::Octet(to_line(code))
+    }
+}
+
+// ---------------------------------------------------------------------------------------------
+// Receiver
+// ---------------------------------------------------------------------------------------------
+
+#[derive(Clone, Copy, PartialEq, Eq, Default)]
+enum LastBlock {
+    #[default]
+    None,
+    Full,
+    Other,
+}
+
+/// The answer of a receiver call.
+#[derive(Clone, Copy, PartialEq, Eq)]
+enum Answer {
+    Quiet,
+    Packet { area: usize, length: usize },
+    Held { count: usize, replaced: bool },
+    Refused(u8),
+}
+
+/// The two lent areas, first and second.
+type Areas<'a> = [&'a mut [u8]; 2];
+
+#[derive(Clone, Copy, Default)]
+struct Receiver {
+    settings: Settings,
+    /// Which area works: 0 the first, 1 the second. The other one is the held area.
+    work: usize,
+    decoded: usize,
+    held: Option<usize>,
+    /// Data octets left in the block.
+    left: usize,
+    /// Zeros due after them.
+    zeros: usize,
+    last: LastBlock,
+    in_frame: bool,
+    resumed: bool,
+    refusal: Option<u8>,
+}
+
+impl Receiver {
+    fn open(settings: Settings) -> Receiver {
+        Receiver {
+            settings,
+            ..Receiver::default()
+        }
+    }
+
+    /// 01's paragraph "In bounds", the receiver's part.
+    fn in_bounds(&self) -> bool {
+        self.decoded <= DECODED_MOST
+            && self.held.is_none_or(|count| count <= DECODED_MOST)
+            && self.left <= FULL_BLOCK
+            && self.zeros <= 2
+            && self
+                .refusal
+                .is_none_or(|number| (refusal::BEGINS_FF..=refusal::TOO_MUCH).contains(&number))
+            && (if self.in_frame {
+                self.frame_in_bounds()
+            } else {
+                self.fresh_outside()
+            })
+    }
+
+    /// What must be as in a fresh receiver while no frame is begun.
+    // Reading: the settings are as given at opening, so they are not tested either.
+    fn fresh_outside(&self) -> bool {
+        self.decoded == 0
+            && self.left == 0
+            && self.zeros == 0
+            && self.last == LastBlock::None
+            && !self.resumed
+            && self.refusal.is_none()
+    }
+
+    /// The two clauses on the last block.
+    // Reading: "in a frame without refusal" governs both clauses, so a frame with a remembered
+    // refusal is tested by neither.
+    fn frame_in_bounds(&self) -> bool {
+        if self.refusal.is_some() {
+            return true;
+        }
+        match self.last {
+            LastBlock::None => self.resumed,
+            LastBlock::Full => true,
+            LastBlock::Other => self.left > 0 || self.decoded > 0,
+        }
+    }
+
+    /// The receiver call: one octet, lent both areas.
+    fn call(&mut self, areas: &mut Areas, octet: u8) -> Answer {
+        if areas.iter().any(|area| area.len() < RECEIVER_AREA) {
+            return Answer::Refused(refusal::AREA_SHORT);
+        }
+        if !self.in_bounds() {
+            return Answer::Refused(refusal::STATE);
+        }
+        self.take(areas, octet)
+    }
+
+    /// The receiver's steps, areas and state being good.
+    #[inline]
+    fn take(&mut self, areas: &mut Areas, octet: u8) -> Answer {
+        if octet == FLAG {
+            return self.take_flag(areas);
+        }
+        let octet = from_line(octet);
+        if self.refusal.is_some() {
+            // Step 4: the rest of the frame is skipped.
+        } else if self.left > 0 {
+            self.take_data(areas, octet);
+        } else if self.in_frame {
+            self.take_code(areas, octet);
+        } else {
+            self.take_first(areas, octet);
+        }
+        Answer::Quiet
+    }
+
+    /// Step 1: the first octet of a frame.
+    fn take_first(&mut self, areas: &mut Areas, octet: u8) {
+        self.in_frame = true;
+        match octet {
+            0xFF => self.refuse(refusal::BEGINS_FF),
+            RESUME => self.take_resume(),
+            code => self.take_code(areas, code),
+        }
+    }
+
+    /// Step 1: a first D1.
+    // Reading: the words "which makes the frame a resumed one" stand before the refusals, so the
+    // mark is set with 6 and 8 too, and a fragment held is lost at the flag of a D1 refused 6.
+    fn take_resume(&mut self) {
+        self.resumed = true;
+        if !self.settings.pre() {
+            return self.refuse(refusal::NOT_AGREED);
+        }
+        match self.held.take() {
+            None => self.refuse(refusal::NOTHING_HELD),
+            Some(count) => {
+                self.decoded = count;
+                self.work = 1 - self.work;
+            }
+        }
+    }
+
+    /// Step 2: a code.
+    // Reading: zeros due that a state handed in has with no data left are replaced by the new
+    // block's, never written.
+    fn take_code(&mut self, areas: &mut Areas, code: u8) {
+        let Some(block) = block_of(code) else {
+            return self.refuse(refusal::NO_SUCH_CODE);
+        };
+        if needs_zxe(code) && !self.settings.zxe() {
+            return self.refuse(refusal::NOT_AGREED);
+        }
+        self.last = if code == FULL_CODE {
+            LastBlock::Full
+        } else {
+            LastBlock::Other
+        };
+        self.left = block.data;
+        self.zeros = block.zeros;
+        if self.left == 0 {
+            self.write_zeros(areas);
+        }
+    }
+
+    /// Step 3: a data octet, and with the last the block's zeros.
+    #[inline]
+    fn take_data(&mut self, areas: &mut Areas, octet: u8) {
+        if self.decoded + 1 > DECODED_MOST {
+            return self.refuse(refusal::TOO_MUCH);
+        }
+        areas[self.work][self.decoded] = octet;
+        self.decoded += 1;
+        self.left -= 1;
+        if self.left == 0 {
+            self.write_zeros(areas);
+        }
+    }
+
+    /// Step 3: a block's zeros together.
+    // Reading: a last data octet that fits is written even if its block's zeros do not.
+    fn write_zeros(&mut self, areas: &mut Areas) {
+        let end = self.decoded + self.zeros;
+        if end > DECODED_MOST {
+            return self.refuse(refusal::TOO_MUCH);
+        }
+        areas[self.work][self.decoded..end].fill(0);
+        self.decoded = end;
+        self.zeros = 0;
+    }
+
+    /// Step 4.
+    fn refuse(&mut self, number: u8) {
+        self.refusal = Some(number);
+        self.left = 0;
+        self.zeros = 0;
+        self.last = LastBlock::None;
+    }
+
+    /// Step 5: the flag gives the report, and all but settings, turn and held count goes fresh.
+    fn take_flag(&mut self, areas: &Areas) -> Answer {
+        let report = if self.in_frame {
+            self.report(areas)
+        } else {
+            Answer::Quiet
+        };
+        self.note_held(report);
+        *self = Receiver {
+            settings: self.settings,
+            work: self.work,
+            held: self.held,
+            ..Receiver::default()
+        };
+        report
+    }
+
+    /// Step 5's choice, in its order.
+    // Reading: "D1 alone" is last block none (in a frame without refusal only a resumed one has
+    // it), also where a state handed in has data left with it.
+    // Reading: "inside a block" is data left; zeros due alone, only in a state handed in, is not.
+    fn report(&self, areas: &Areas) -> Answer {
+        if let Some(number) = self.refusal {
+            return Answer::Refused(number);
+        }
+        if self.last == LastBlock::None {
+            return Answer::Refused(refusal::RESUME_ALONE);
+        }
+        if self.left > 0 {
+            return self.report_inside_block();
+        }
+        if self.last == LastBlock::Full {
+            return Answer::Refused(refusal::LAST_FULL);
+        }
+        self.report_whole(areas)
+    }
+
+    /// Step 5: the frame ends inside a block.
+    fn report_inside_block(&self) -> Answer {
+        if self.settings.pre() {
+            let replaced = !self.resumed && self.held.is_some();
+            Answer::Held {
+                count: self.decoded,
+                replaced,
+            }
+        } else {
+            Answer::Refused(refusal::ENDS_IN_BLOCK)
+        }
+    }
+
+    /// Step 5: the phantom goes, and what is left is a frame.
+    fn report_whole(&self, areas: &Areas) -> Answer {
+        let length = self.decoded.saturating_sub(1);
+        if length < FRAME_SHORTEST {
+            Answer::Refused(refusal::TOO_LITTLE)
+        } else if register_over(&areas[self.work][..length]) != REGISTER_GOOD {
+            Answer::Refused(refusal::FCS)
+        } else {
+            Answer::Packet {
+                area: self.work,
+                length: length - FCS_LENGTH,
+            }
+        }
+    }
+
+    /// What a report does to the held fragment and the turn of the areas.
+    fn note_held(&mut self, report: Answer) {
+        match report {
+            Answer::Held { count, .. } => {
+                self.held = Some(count);
+                self.work = 1 - self.work;
+            }
+            Answer::Packet { .. } | Answer::Refused(_) if self.resumed => self.held = None,
+            Answer::Packet { .. } | Answer::Refused(_) | Answer::Quiet => {}
+        }
+    }
+}
+
+// ---------------------------------------------------------------------------------------------
+// Display and tally
+// ---------------------------------------------------------------------------------------------
+
+/// The octets of a reported packet as a part of its area; a length beyond it shows none.
+fn shown(area: &[u8], length: usize) -> &[u8] {
+    area.get(..length).unwrap_or(&[])
+}
+
+const COUNTS: usize = 13;
+const COUNT_NAMES: [&str; COUNTS] = [
+    "packets",
+    "held",
+    "held-replaced",
+    "refused-5",
+    "refused-6",
+    "refused-7",
+    "refused-8",
+    "refused-9",
+    "refused-10",
+    "refused-11",
+    "refused-12",
+    "refused-13",
+    "refused-14",
+];
+
+#[derive(Default)]
+struct Tally {
+    counts: [u64; COUNTS],
+}
+
+impl Tally {
+    /// Raises the report's count, if it has one.
+    fn note(&mut self, report: Answer) {
+        let place = match report {
+            Answer::Packet { .. } => 0,
+            Answer::Held {
+                replaced: false, ..
+            } => 1,
+            Answer::Held { replaced: true, .. } => 2,
+            Answer::Refused(number @ refusal::FRAME_FIRST..=refusal::FRAME_LAST) => {
+                3 + usize::from(number - refusal::FRAME_FIRST)
+            }
+            Answer::Refused(_) | Answer::Quiet => return,
+        };
+        self.counts[place] = self.counts[place].saturating_add(1);
+    }
+}
+
+// ---------------------------------------------------------------------------------------------
+// Lines
+// ---------------------------------------------------------------------------------------------
+
+/// Each octet as a space and two hexadecimal capitals.
+static HEX: [[u8; 3]; 256] = hex_table();
+
+const fn hex_table() -> [[u8; 3]; 256] {
+    const DIGITS: &[u8; 16] = b"0123456789ABCDEF";
+    let mut table = [[b' '; 3]; 256];
+    let mut octet = 0;
+    while octet < 256 {
+        table[octet] = [b' ', DIGITS[octet / 16], DIGITS[octet % 16]];
+        octet += 1;
+    }
+    table
+}
+
+/// Output, gathered and written in large pieces.
+struct Lines<W: Write> {
+    gathered: Vec<u8>,
+    to: W,
+}
+
+impl<W: Write> Lines<W> {
+    const FULL: usize = 1 << 16;
+
+    fn new(to: W) -> Lines<W> {
+        Lines {
+            gathered: Vec::with_capacity(2 * Lines::<W>::FULL),
+            to,
+        }
+    }
+
+    fn begin(&mut self, letter: u8) {
+        self.gathered.push(letter);
+    }
+
+    fn number(&mut self, number: usize) {
+        self.gathered.push(b' ');
+        self.decimal(number as u64);
+    }
+
+    fn decimal(&mut self, mut rest: u64) {
+        let mut digits = [b'0'; 20];
+        let mut first = digits.len();
+        loop {
+            first -= 1;
+            digits[first] = b'0' + (rest % 10) as u8;
+            rest /= 10;
+            if rest == 0 {
+                break;
+            }
+        }
+        self.gathered.extend_from_slice(&digits[first..]);
+    }
+
+    fn octets(&mut self, octets: &[u8]) {
+        for &octet in octets {
+            self.gathered.extend_from_slice(&HEX[usize::from(octet)]);
+        }
+    }
+
+    fn end(&mut self) -> io::Result<()> {
+        self.gathered.push(b'\n');
+        if self.gathered.len() >= Lines::<W>::FULL {
+            self.flush()
+        } else {
+            Ok(())
+        }
+    }
+
+    fn flush(&mut self) -> io::Result<()> {
+        self.to.write_all(&self.gathered)?;
+        self.gathered.clear();
+        self.to.flush()
+    }
+
+    /// A line of a letter alone.
+    fn letter(&mut self, letter: u8) -> io::Result<()> {
+        self.begin(letter);
+        self.end()
+    }
+
+    /// A line of a letter and numbers.
+    fn numbers(&mut self, letter: u8, numbers: &[usize]) -> io::Result<()> {
+        self.begin(letter);
+        for &number in numbers {
+            self.number(number);
+        }
+        self.end()
+    }
+
+    fn refused(&mut self, number: u8) -> io::Result<()> {
+        self.numbers(b'R', &[usize::from(number)])
+    }
+
+    fn held(&mut self, count: usize, replaced: bool) -> io::Result<()> {
+        self.numbers(b'H', &[count, usize::from(replaced)])
+    }
+}
+
+// ---------------------------------------------------------------------------------------------
+// Capture and count
+// ---------------------------------------------------------------------------------------------
+
+/// Runs a fresh receiver, both settings on, over all of the input; `note` gets each report.
+fn receive_all<N>(input: &mut impl Read, mut note: N) -> io::Result<()>
+where
+    N: FnMut(Answer, &Areas) -> io::Result<()>,
+{
+    let (mut first, mut second) = ([0; RECEIVER_AREA], [0; RECEIVER_AREA]);
+    let mut areas: Areas = [&mut first, &mut second];
+    let mut receiver = Receiver::open(Settings::BOTH);
+    let mut piece = vec![0; 1 << 18];
+    loop {
+        let count = input.read(&mut piece)?;
+        if count == 0 {
+            return Ok(());
+        }
+        for &octet in &piece[..count] {
+            let answer = receiver.take(&mut areas, octet);
+            if answer != Answer::Quiet {
+                note(answer, &areas)?;
+            }
+        }
+    }
+}
+
+fn capture(input: &mut impl Read, output: impl Write) -> io::Result<()> {
+    let mut lines = Lines::new(output);
+    receive_all(input, |report, areas| match report {
+        Answer::Quiet => Ok(()),
+        Answer::Packet { area, length } => {
+            lines.begin(b'P');
+            lines.number(length);
+            lines.octets(shown(areas[area], length));
+            lines.end()
+        }
+        Answer::Held { count, replaced } => lines.held(count, replaced),
+        Answer::Refused(number) => lines.refused(number),
+    })?;
+    lines.flush()
+}
+
+fn count(input: &mut impl Read, mut output: impl Write) -> io::Result<()> {
+    let mut tally = Tally::default();
+    receive_all(input, |report, _| {
+        tally.note(report);
+        Ok(())
+    })?;
+    for (name, count) in COUNT_NAMES.iter().zip(tally.counts) {
+        writeln!(output, "{name} {count}")?;
+    }
+    output.flush()
+}
+
+// ---------------------------------------------------------------------------------------------
+// Exercise
+// ---------------------------------------------------------------------------------------------
+
+const WHOLE_AREA: usize = 4096;
+const LOW: usize = 0;
+const HIGH: usize = 1;
+const FIRST: usize = 2;
+const SECOND: usize = 3;
+
+/// A command with all of its operands.
+enum Command<'a> {
+    OpenSender(Settings),
+    OpenReceiver(Settings),
+    Load(LaneName, &'a [u8]),
+    Next(usize),
+    Receive(&'a [u8]),
+    Lend([usize; 4]),
+    Fill {
+        area: usize,
+        at: usize,
+        octets: &'a [u8],
+    },
+    HandSender(Sender),
+    HandReceiver(Receiver),
+    ShowStates,
+    ShowArea {
+        area: usize,
+        at: usize,
+        count: usize,
+    },
+}
+
+/// The commands of a script not yet read.
+struct Script<'a> {
+    rest: &'a [u8],
+}
+
+impl<'a> Script<'a> {
+    /// The next command; None when it is unknown or cut short.
+    fn command(&mut self) -> Option<Command<'a>> {
+        Some(match self.octet()? {
+            b'o' => Command::OpenSender(Settings(self.octet()?)),
+            b'O' => Command::OpenReceiver(Settings(self.octet()?)),
+            b'l' => Command::Load(LaneName::Low, self.octets()?),
+            b'h' => Command::Load(LaneName::High, self.octets()?),
+            b'n' => Command::Next(self.number()?),
+            b'r' => Command::Receive(self.octets()?),
+            b'a' => Command::Lend(self.numbers()?.map(|length| length.min(WHOLE_AREA))),
+            b'f' => Command::Fill {
+                area: self.area()?,
+                at: self.number()?,
+                octets: self.octets()?,
+            },
+            b's' => Command::HandSender(sender_of(self.numbers()?)),
+            b't' => Command::HandReceiver(receiver_of(self.numbers()?)),
+            b'd' => Command::ShowStates,
+            b'x' => Command::ShowArea {
+                area: self.area()?,
+                at: self.number()?,
+                count: self.number()?,
+            },
+            _ => return None,
+        })
+    }
+
+    fn take(&mut self, count: usize) -> Option<&'a [u8]> {
+        let (taken, rest) = self.rest.split_at_checked(count)?;
+        self.rest = rest;
+        Some(taken)
+    }
+
+    fn octet(&mut self) -> Option<u8> {
+        self.take(1).map(|octets| octets[0])
+    }
+
+    /// Two octets, low octet first.
+    fn number(&mut self) -> Option<usize> {
+        self.take(2)
+            .map(|octets| usize::from(octets[0]) + 256 * usize::from(octets[1]))
+    }
+
+    fn numbers<const N: usize>(&mut self) -> Option<[usize; N]> {
+        let mut numbers = [0; N];
+        for number in &mut numbers {
+            *number = self.number()?;
+        }
+        Some(numbers)
+    }
+
+    fn octets(&mut self) -> Option<&'a [u8]> {
+        let count = self.number()?;
+        self.take(count)
+    }
+
+    /// An area octet above 3 counts as its remainder by 4.
+    fn area(&mut self) -> Option<usize> {
+        self.octet().map(|area| usize::from(area % 4))
+    }
+}
+
+/// The ten numbers of `s`.
+fn sender_of(numbers: [usize; 10]) -> Sender {
+    let [settings, low, low_at, high, high_at, left, zeros, line, suspended, cut_due] = numbers;
+    Sender {
+        settings: Settings((settings % 256) as u8),
+        low: Lane {
+            length: low,
+            position: low_at,
+        },
+        high: Lane {
+            length: high,
+            position: high_at,
+        },
+        left: left % 256,
+        zeros: zeros % 256,
+        on_line: [None, Some(LaneName::Low), Some(LaneName::High)][line % 3],
+        suspended: suspended % 2 == 1,
+        cut_due: cut_due % 2 == 1,
+    }
+}
+
+fn sender_numbers(sender: &Sender) -> [usize; 10] {
+    [
+        usize::from(sender.settings.0),
+        sender.low.length,
+        sender.low.position,
+        sender.high.length,
+        sender.high.position,
+        sender.left,
+        sender.zeros,
+        match sender.on_line {
+            None => 0,
+            Some(LaneName::Low) => 1,
+            Some(LaneName::High) => 2,
+        },
+        usize::from(sender.suspended),
+        usize::from(sender.cut_due),
+    ]
+}
+
+/// The ten numbers of `t`.
+// The work area counts as a mark does, by its remainder by 2.
+fn receiver_of(numbers: [usize; 10]) -> Receiver {
+    let [settings, work, decoded, held, left, zeros, last, in_frame, resumed, remembered] = numbers;
+    Receiver {
+        settings: Settings((settings % 256) as u8),
+        work: work % 2,
+        decoded,
+        held: held.checked_sub(1),
+        left: left % 256,
+        zeros: zeros % 256,
+        last: [LastBlock::None, LastBlock::Full, LastBlock::Other][last % 3],
+        in_frame: in_frame % 2 == 1,
+        resumed: resumed % 2 == 1,
+        refusal: Some((remembered % 256) as u8).filter(|&number| number != 0),
+    }
+}
+
+fn receiver_numbers(receiver: &Receiver) -> [usize; 10] {
+    [
+        usize::from(receiver.settings.0),
+        receiver.work,
+        receiver.decoded,
+        receiver.held.map_or(0, |count| count + 1),
+        receiver.left,
+        receiver.zeros,
+        match receiver.last {
+            LastBlock::None => 0,
+            LastBlock::Full => 1,
+            LastBlock::Other => 2,
+        },
+        usize::from(receiver.in_frame),
+        usize::from(receiver.resumed),
+        receiver.refusal.map_or(0, usize::from),
+    ]
+}
+
+/// The part of a whole area from `at` on, at most `count` octets.
+fn part(at: usize, count: usize) -> std::ops::Range<usize> {
+    let begin = at.min(WHOLE_AREA);
+    begin..(begin + count).min(WHOLE_AREA)
+}
+
+/// Both ends, their areas, and the lengths with which these are lent.
+struct Bench<W: Write> {
+    sender: Sender,
+    receiver: Receiver,
+    areas: [[u8; WHOLE_AREA]; 4],
+    lengths: [usize; 4],
+    lines: Lines<W>,
+}
+
+impl<W: Write> Bench<W> {
+    fn new(output: W) -> Bench<W> {
+        Bench {
+            sender: Sender::open(Settings(0)),
+            receiver: Receiver::open(Settings(0)),
+            areas: [[0; WHOLE_AREA]; 4],
+            lengths: [SENDER_AREA, SENDER_AREA, RECEIVER_AREA, RECEIVER_AREA],
+            lines: Lines::new(output),
+        }
+    }
+
+    fn run(&mut self, script: &[u8]) -> io::Result<()> {
+        let mut script = Script { rest: script };
+        while !script.rest.is_empty() {
+            match script.command() {
+                Some(command) => self.carry_out(command)?,
+                None => {
+                    self.lines.letter(b'E')?;
+                    break;
+                }
+            }
+        }
+        self.lines.flush()
+    }
+
+    fn carry_out(&mut self, command: Command) -> io::Result<()> {
+        match command {
+            Command::OpenSender(settings) => self.sender = Sender::open(settings),
+            Command::OpenReceiver(settings) => self.receiver = Receiver::open(settings),
+            Command::Load(name, packet) => self.load(name, packet)?,
+            Command::Next(count) => self.next(count)?,
+            Command::Receive(octets) => self.receive(octets)?,
+            Command::Lend(lengths) => self.lengths = lengths,
+            Command::Fill { area, at, octets } => self.fill(area, at, octets),
+            Command::HandSender(sender) => self.sender = sender,
+            Command::HandReceiver(receiver) => self.receiver = receiver,
+            Command::ShowStates => self.show_states()?,
+            Command::ShowArea { area, at, count } => self.show_area(area, at, count)?,
+        }
+        Ok(())
+    }
+
+    fn load(&mut self, name: LaneName, packet: &[u8]) -> io::Result<()> {
+        let area = match name {
+            LaneName::Low => LOW,
+            LaneName::High => HIGH,
+        };
+        let lent = &mut self.areas[area][..self.lengths[area]];
+        match self.sender.load(name, lent, packet) {
+            Loaded::Done => self.lines.letter(b'D'),
+            Loaded::Refused(number) => self.lines.refused(number),
+        }
+    }
+
+    fn next(&mut self, count: usize) -> io::Result<()> {
+        let low = &self.areas[LOW][..self.lengths[LOW]];
+        let high = &self.areas[HIGH][..self.lengths[HIGH]];
+        for _ in 0..count {
+            match self.sender.next_octet(low, high) {
+                Next::Octet(octet) => {
+                    self.lines.begin(b'O');
+                    self.lines.octets(&[octet]);
+                    self.lines.end()?;
+                }
+                Next::Idle => self.lines.letter(b'I')?,
+                Next::Refused(number) => self.lines.refused(number)?,
+            }
+        }
+        Ok(())
+    }
+
+    fn receive(&mut self, octets: &[u8]) -> io::Result<()> {
+        let [_, _, first, second] = &mut self.areas;
+        let mut lent: Areas = [
+            &mut first[..self.lengths[FIRST]],
+            &mut second[..self.lengths[SECOND]],
+        ];
+        for &octet in octets {
+            match self.receiver.call(&mut lent, octet) {
+                Answer::Quiet => {}
+                Answer::Packet { area, length } => {
+                    self.lines.begin(b'P');
+                    self.lines.number(area);
+                    self.lines.number(length);
+                    self.lines.octets(shown(lent[area], length));
+                    self.lines.end()?;
+                }
+                Answer::Held { count, replaced } => self.lines.held(count, replaced)?,
+                Answer::Refused(number) => self.lines.refused(number)?,
+            }
+        }
+        Ok(())
+    }
+
+    /// What lies beyond the whole area is dropped.
+    fn fill(&mut self, area: usize, at: usize, octets: &[u8]) {
+        let place = part(at, octets.len());
+        let kept = place.len();
+        self.areas[area][place].copy_from_slice(&octets[..kept]);
+    }
+
+    fn show_states(&mut self) -> io::Result<()> {
+        self.lines.numbers(b'S', &sender_numbers(&self.sender))?;
+        self.lines.numbers(b'T', &receiver_numbers(&self.receiver))
+    }
+
+    fn show_area(&mut self, area: usize, at: usize, count: usize) -> io::Result<()> {
+        self.lines.begin(b'X');
+        self.lines.octets(&self.areas[area][part(at, count)]);
+        self.lines.end()
+    }
+}
+
+fn exercise(input: &mut impl Read, output: impl Write) -> io::Result<()> {
+    let mut script = Vec::new();
+    input.read_to_end(&mut script)?;
+    Bench::new(output).run(&script)
+}
+
+fn main() -> io::Result<()> {
+    let mode = std::env::args().nth(1);
+    let (mut input, output) = (io::stdin().lock(), io::stdout().lock());
+    match mode.as_deref() {
+        Some("capture") => capture(&mut input, output),
+        Some("count") => count(&mut input, output),
+        Some("exercise") => exercise(&mut input, output),
+        _ => {
+            eprintln!("usage: model capture|count|exercise");
+            std::process::exit(2)
+        }
+    }
+}

@@ -1,0 +1,712 @@
+#!/usr/bin/env python3
+"""Writes the stored tests; all expected output is the model's (model.rs).
+
+    python3 tests/model/stored.py [--explain]
+
+    tests/captures/NAME.octets      a capture
+    tests/captures/NAME.lines       what the capture program prints for it
+    tests/captures/NAME.counts      what the count program prints for it
+    crates/exercise/stdin, stdout   one script of the exercise program, and what that prints
+    crates/count/stdin, stdout      the capture stale-fragment, and its counts
+
+Every entry of the script's table has, beside its commands, the answers that document 01 asks for,
+written down by hand; they are held against the model's output before anything is stored.
+--explain prints each entry with its output. Seeds are fixed: the same files come out each time.
+"""
+import os
+import random
+import sys
+import tempfile
+
+from compare import (FLAG, HERE, Programs, build_model, fcs, fill, hand_receiver, hand_sender, lend, load_high, load_low,
+                     next_octets, packet, receive, sent_octets, show, zero_free)
+
+
+def hx(text):
+    return bytes.fromhex(text)
+
+
+# ------------------------------------------------------------------------------------------------
+# Captures
+# ------------------------------------------------------------------------------------------------
+
+def sent_by_model(programs, script):
+    return sent_octets(programs.of_model("exercise", script))
+
+
+def frames_of(line):
+    """The frames of a line, each with its flag."""
+    return [frame + FLAG for frame in line.split(FLAG)[:-1]]
+
+
+def short_line(programs, rng, packets, settings=3):
+    parts = [b"o" + bytes((settings,))]
+    for _ in range(packets):
+        parts.append(load_low(packet(rng, rng.choice((2, 3, 4, 9, 30, 31, 60)))) + next_octets(80))
+    return sent_by_model(programs, b"".join(parts))
+
+
+def urgent_line(programs, rng, packets):
+    """Low packets broken off by high ones: inside a block, between blocks, straight after D1."""
+    parts = [b"o\x03"]
+    for n in range(packets):
+        low = packet(rng, rng.choice((8, 40, 210, 400)))
+        parts.append(load_low(low))
+        for _ in range(n % 4):
+            parts.append(next_octets(rng.choice((1, 2, 3, 12))) + load_high(packet(rng, rng.choice((2, 4, 20)))))
+        parts.append(next_octets(len(low) + 100))
+    # D1, then at once another urgent packet.
+    parts.append(load_low(b"straight after") + next_octets(4) + load_high(b"one") + next_octets(1 + 7 + 1)
+                 + load_high(b"two") + next_octets(60))
+    return sent_by_model(programs, b"".join(parts))
+
+
+def quiet_link(programs):
+    return short_line(programs, random.Random(1), 40)
+
+
+def urgent_traffic(programs):
+    return urgent_line(programs, random.Random(2), 40)
+
+
+def noise_between_frames(programs):
+    rng = random.Random(3)
+    parts = []
+    for frame in frames_of(short_line(programs, rng, 40)):
+        parts.append(rng.randbytes(rng.choice((0, 1, 4, 30))) + FLAG * rng.choice((1, 1, 3)) + frame)
+    return b"".join(parts)
+
+
+def noise_in_frames(programs):
+    rng = random.Random(4)
+    line = bytearray(urgent_line(programs, rng, 30))
+    for _ in range(len(line) // 60):
+        line[rng.randrange(len(line))] ^= 1 << rng.randrange(8)
+    return bytes(line)
+
+
+def lost_flags(programs):
+    rng = random.Random(5)
+    return b"".join(frame[:-1] if rng.random() < 0.25 else frame for frame in frames_of(urgent_line(programs, rng, 40)))
+
+
+def same_register(start, rng):
+    """Other octets of the same length, without zeros and 7E, that bring the register to the same value."""
+    want = fcs(start)
+    usable = [octet for octet in range(1, 256) if octet != FLAG[0]]
+    while True:
+        other = bytes(rng.choices(usable, k=len(start) - 2))
+        for a in usable:
+            for b in usable:
+                if fcs(other + bytes((a, b))) == want and other != start[:-2]:
+                    return other + bytes((a, b))
+
+
+def cut_frame(whole, cut):
+    """A frame without zeros in two: broken off after `cut` octets, and the rest after D1."""
+    rest = whole[cut:]
+    assert 0 not in whole and FLAG[0] not in whole and len(whole) < 120
+    return bytes((len(whole) + 1,)) + whole[:cut] + FLAG, b"\xd1" + bytes((len(rest) + 1,)) + rest + FLAG
+
+
+def stale_fragment(programs):
+    rng = random.Random(6)
+    older, later = b"12345678older", b"ABCDEFGHlater"
+    older_begun, _older_rest = cut_frame(older + fcs(older), 8)
+    later_begun, later_rest = cut_frame(later + fcs(later), 8)
+    like_begun, _ = cut_frame(b"ABCDEFGH" + b"another" + fcs(b"ABCDEFGHanother"), 8)
+    chance = same_register(b"ABCDEFGH", rng)
+    chance_begun, _ = cut_frame(chance + b"older" + fcs(chance + b"older"), 8)
+    urgent = frames_of(short_line(programs, rng, 1))[0]
+    return b"".join((
+        older_begun, urgent, later_rest,                # older's rest and later's beginning lost: joined, 14
+        later_rest,                                     # nothing held any more: 8
+        older_begun, later_begun, urgent, later_rest,   # older's rest lost: replaced, then whole
+        like_begun, urgent, later_rest,                 # the stale fragment has the same octets: whole
+        chance_begun, urgent, later_rest,               # other octets, same register: passes by chance
+        older_begun, urgent, urgent, b"\xd1\x03x" + FLAG,  # held again, longer
+        later_rest,                                     # joined to that: 14
+        older_begun, b"\xd1" + FLAG, later_rest,        # D1 alone loses what is held: 9, then 8
+        older_begun, b"\xd2" + FLAG, b"\xff" + FLAG, b"\xd3" + FLAG, later_rest,  # refused, what is held stays: 14
+    ))
+
+
+def edges(programs):
+    rng = random.Random(7)
+    longest = sent_by_model(programs, b"o\x03" + load_low(zero_free(rng, 2048)) + next_octets(2100)
+                            + load_low(bytes(2048)) + next_octets(2100))
+    full = b"\xd0" + b"1" * 207
+    return b"".join((
+        longest,
+        b"\xdf" * 136 + b"\xdb" + FLAG, b"\xdf" * 136 + b"\xdc" + FLAG, b"\xdf" * 137 + FLAG, b"\xdf" * 400 + FLAG,
+        full * 9 + b"\xbc" + b"1" * 187 + FLAG,         # 9 * 207 + 187 is 2,050, and a zero: 14
+        full * 9 + b"\xbd" + b"1" * 187 + FLAG,         # 2,050, inside a block: held
+        full * 9 + b"\xbd" + b"1" * 188 + FLAG,         # 2,051, no room for the zero: 10
+        full * 9 + b"\xbe" + b"1" * 188 + FLAG,         # 2,051, inside a block: held
+        full * 9 + b"\xbf" + b"1" * 189 + FLAG,         # no room for the last: 10
+        full * 9 + b"\xfe" + b"1" * 30 + FLAG,
+        full * 10 + FLAG,
+        full + FLAG, full + b"\x01" + FLAG, full[:-1] + FLAG, full * 2 + FLAG,
+        b"\xd1" + full + FLAG,                          # onto the 206 held: 12
+        b"\xff" + FLAG, b"\xff\x03\xc0\x21" + FLAG,
+        b"\xd1" + FLAG, b"\xd1\x01" + FLAG,             # nothing held: 8 and 8
+        b"\x05\x31" + FLAG + b"\xd1" + FLAG,            # 9
+        b"\xd2" + FLAG, b"\x01\xd1" + FLAG, b"\x01\xd2" + FLAG, b"\x01\xff" + FLAG,
+        b"\x05" + FLAG, b"\x05\x31" + FLAG, b"\xd1\x05" + FLAG, b"\xd1\xff" + FLAG,
+        b"\x01" + FLAG, b"\xd3" + FLAG, b"\xd4" + FLAG, b"\xd5" + FLAG, b"\x04\x31\x31\x31" + FLAG,
+        b"\x05\x31\x31\x31\x31" + FLAG, FLAG * 3, b"\x00" + b"1" * 125 + FLAG, b"\x00" + b"1" * 124 + FLAG,
+    ))
+
+
+def unclosed(programs):
+    return short_line(programs, random.Random(8), 4) + hx("0C 31 32 33 7E 0C 31 32 33 34 35 36")
+
+
+def empty(_programs):
+    return b""
+
+
+def all_octets(_programs):
+    return b"".join(bytes((octet,)) + hx("31 32 02 33 7E") for octet in range(256))
+
+
+CAPTURES = {
+    "quiet-link": quiet_link,
+    "urgent-traffic": urgent_traffic,
+    "noise-between-frames": noise_between_frames,
+    "noise-in-frames": noise_in_frames,
+    "lost-flags": lost_flags,
+    "stale-fragment": stale_fragment,
+    "edges": edges,
+    "unclosed": unclosed,
+    "empty": empty,
+    "all-octets": all_octets,
+}
+
+
+# ------------------------------------------------------------------------------------------------
+# The script's table
+# ------------------------------------------------------------------------------------------------
+
+D = b"d"
+DEFAULT_LENGTHS = lend((2050, 2050, 2051, 2051))
+
+
+def open_sender(settings):
+    return b"o" + bytes((settings,))
+
+
+def open_receiver(settings):
+    return b"O" + bytes((settings,))
+
+
+def sender(settings=3, low=(0, 0), high=(0, 0), left=0, zeros=0, line=0, suspended=0, cut=0):
+    """A sender state; line 0 none, 1 low, 2 high."""
+    return hand_sender((settings, *low, *high, left, zeros, line, suspended, cut))
+
+
+def receiver(settings=3, work=0, decoded=0, held=None, left=0, zeros=0, last=0, frame=0, resumed=0, refusal=0):
+    """A receiver state; held a count or None; last 0 none, 1 D0, 2 other."""
+    return hand_receiver((settings, work, decoded, 0 if held is None else held + 1, left, zeros, last, frame,
+                          resumed, refusal))
+
+
+def show_sender(at=0):
+    return show(0, at, 8) + show(1, at, 8)
+
+
+def show_receiver(at=0):
+    return show(2, at, 6) + show(3, at, 6)
+
+
+def fill_all():
+    """Known octets in all areas: 1, 2, 3, ... without zeros, so that what is written shows."""
+    ramp = bytes(1 + n % 250 for n in range(2100))
+    return b"".join(fill(area, 0, ramp) for area in range(4))
+
+
+# --- In bounds, the sender: clause, states at its edge, states just beyond it in that clause alone.
+SENDER_CLAUSES = [
+    ("low length 0 or 4 to 2,050",
+     [sender(low=(0, 0)), sender(low=(4, 0)), sender(low=(2050, 0))],
+     [sender(low=(1, 0)), sender(low=(3, 0)), sender(low=(2051, 0)), sender(low=(65535, 0))]),
+    ("high length 0 or 4 to 2,050",
+     [sender(high=(0, 0)), sender(high=(4, 0)), sender(high=(2050, 0))],
+     [sender(high=(1, 0)), sender(high=(3, 0)), sender(high=(2051, 0)), sender(high=(65535, 0))]),
+    ("low position at most length + 1",
+     [sender(low=(0, 1)), sender(low=(4, 5)), sender(low=(2050, 2051))],
+     [sender(low=(0, 2)), sender(low=(4, 6)), sender(low=(2050, 2052)), sender(low=(4, 65535))]),
+    ("high position at most length + 1",
+     [sender(high=(0, 1)), sender(high=(4, 5)), sender(high=(2050, 2051))],
+     [sender(high=(0, 2)), sender(high=(4, 6)), sender(high=(2050, 2052)), sender(high=(4, 65535))]),
+    ("data left at most 207",
+     [sender(low=(300, 0), left=207, line=1), sender(high=(300, 0), left=207, line=2)],
+     [sender(low=(300, 0), left=208, line=1), sender(high=(300, 0), left=208, line=2),
+      sender(low=(300, 0), left=255, line=1)]),
+    ("zeros due at most 2",
+     [sender(low=(300, 0), left=1, zeros=2, line=1), sender(high=(300, 0), left=1, zeros=2, line=2)],
+     [sender(low=(300, 0), left=1, zeros=3, line=1), sender(high=(300, 0), left=1, zeros=3, line=2)]),
+    ("sum of position, left and zeros within D",
+     [sender(low=(10, 3), left=6, zeros=2, line=1), sender(low=(10, 10), left=1, line=1),
+      sender(high=(10, 3), left=6, zeros=2, line=2), sender(high=(10, 9), left=1, zeros=1, line=2),
+      sender(low=(10, 11), high=(10, 0), left=5, line=2, suspended=1)],
+     [sender(low=(10, 4), left=6, zeros=2, line=1), sender(low=(10, 3), left=7, zeros=2, line=1),
+      sender(low=(10, 10), left=2, line=1), sender(low=(10, 11), left=1, line=1),
+      sender(high=(10, 4), left=6, zeros=2, line=2), sender(high=(10, 9), left=1, zeros=2, line=2)]),
+    ("nothing left or due without a lane on the line",
+     [sender(low=(10, 0), high=(10, 0)), sender(low=(10, 0))],
+     [sender(low=(10, 0), left=1), sender(high=(10, 0), left=1), sender(low=(10, 0), left=1, zeros=1),
+      sender(low=(10, 0), zeros=1), sender(low=(10, 0), high=(10, 0), left=1)]),
+    ("zeros 0 with none left",
+     [sender(low=(10, 0), left=1, zeros=1, line=1), sender(high=(10, 0), left=1, zeros=1, line=2),
+      sender(low=(10, 0), line=1), sender(high=(10, 0), line=2)],
+     [sender(low=(10, 0), zeros=1, line=1), sender(high=(10, 0), zeros=2, line=2)]),
+    ("a lane on the line not empty",
+     [sender(low=(4, 0), line=1), sender(high=(4, 0), line=2)],
+     [sender(line=1), sender(line=2), sender(high=(4, 0), line=1), sender(low=(4, 0), line=2)]),
+    ("a lane suspended not empty",
+     [sender(low=(4, 0), suspended=1), sender(low=(4, 5), suspended=1)],
+     [sender(suspended=1), sender(high=(4, 0), suspended=1), sender(high=(4, 0), line=2, suspended=1)]),
+    ("low not both on the line and suspended",
+     [sender(low=(4, 0), high=(4, 0), line=2, suspended=1), sender(low=(4, 0), line=1)],
+     [sender(low=(4, 0), line=1, suspended=1), sender(low=(9, 2), left=2, line=1, suspended=1),
+      sender(low=(4, 0), line=1, suspended=1, cut=1)]),
+    ("cut due: low on the line",
+     [sender(low=(4, 0), high=(4, 0), line=1, cut=1), sender(low=(4, 0), line=1, cut=1),
+      sender(settings=0, low=(4, 5), line=1, cut=1)],
+     [sender(low=(4, 0), cut=1), sender(low=(4, 0), high=(4, 0), line=2, cut=1), sender(cut=1),
+      sender(low=(4, 0), suspended=1, cut=1)]),
+    ("cut due: none left",
+     [sender(low=(9, 0), line=1, cut=1)],
+     [sender(low=(9, 0), left=1, line=1, cut=1), sender(low=(9, 0), left=2, zeros=1, line=1, cut=1)]),
+]
+
+# --- In bounds, the receiver: the same.
+IN_OTHER = dict(last=2, frame=1)
+RECEIVER_CLAUSES = [
+    ("decoded count at most 2,051",
+     [receiver(decoded=2051, left=1, **IN_OTHER), receiver(decoded=2051, **IN_OTHER),
+      receiver(decoded=2050, left=1, zeros=1, **IN_OTHER), receiver(decoded=2051, frame=1, refusal=10)],
+     [receiver(decoded=2052, left=1, **IN_OTHER), receiver(decoded=2052, **IN_OTHER),
+      receiver(decoded=65535, **IN_OTHER), receiver(decoded=2052, frame=1, refusal=10)]),
+    ("held count at most 2,051",
+     [receiver(held=0), receiver(held=2051), receiver(held=2051, decoded=1, left=1, **IN_OTHER)],
+     [receiver(held=2052), receiver(held=65534), receiver(held=2052, decoded=1, left=1, **IN_OTHER)]),
+    ("data left at most 207",
+     [receiver(left=207, last=1, frame=1), receiver(left=207, **IN_OTHER),
+      receiver(left=207, frame=1, refusal=7)],
+     [receiver(left=208, last=1, frame=1), receiver(left=208, **IN_OTHER), receiver(left=255, **IN_OTHER),
+      receiver(left=208, frame=1, refusal=7)]),
+    ("zeros due at most 2",
+     [receiver(left=1, zeros=2, **IN_OTHER), receiver(decoded=5, zeros=2, **IN_OTHER)],
+     [receiver(left=1, zeros=3, **IN_OTHER), receiver(left=1, zeros=255, **IN_OTHER),
+      receiver(decoded=5, zeros=3, **IN_OTHER)]),
+    ("remembered refusal none or 5 to 10",
+     [receiver(frame=1, refusal=5), receiver(frame=1, refusal=10),
+      receiver(frame=1, resumed=1, refusal=8, held=4)],
+     [receiver(frame=1, refusal=4), receiver(frame=1, refusal=11), receiver(frame=1, refusal=1),
+      receiver(frame=1, refusal=255), receiver(frame=1, resumed=1, refusal=14, held=4)]),
+    ("no frame begun: the rest fresh",
+     [receiver(), receiver(work=1), receiver(work=1, held=2051), receiver(settings=255, held=0)],
+     [receiver(decoded=1), receiver(left=1), receiver(zeros=1), receiver(last=1), receiver(last=2),
+      receiver(last=2, decoded=1), receiver(resumed=1), receiver(refusal=5)]),
+    ("in a frame, no refusal: last block none if resumed",
+     [receiver(frame=1, resumed=1), receiver(frame=1, resumed=1, decoded=7), receiver(frame=1, refusal=5),
+      receiver(settings=0, frame=1, resumed=1), receiver(frame=1, resumed=1, left=3, zeros=1)],
+     [receiver(frame=1), receiver(frame=1, decoded=7), receiver(frame=1, left=3)]),
+    ("in a frame, no refusal: last block other, none left, if something is decoded",
+     [receiver(decoded=1, **IN_OTHER), receiver(left=1, **IN_OTHER), receiver(refusal=5, **IN_OTHER),
+      receiver(last=1, frame=1), receiver(last=1, frame=1, resumed=1)],
+     [receiver(**IN_OTHER), receiver(resumed=1, **IN_OTHER), receiver(zeros=1, **IN_OTHER)]),
+]
+
+
+def sender_bounds():
+    """Each state through load of both lanes and next octet."""
+    for clause, at, beyond in SENDER_CLAUSES:
+        for states, refused in ((at, False), (beyond, True)):
+            for n, state in enumerate(states, 1):
+                commands = b"".join(state + call + D for call in
+                                    (load_low(hx("41 42")), load_high(hx("41 42")), next_octets(1)))
+                name = f"{'beyond' if refused else 'at'} {n}: {clause}"
+                yield name, commands + show_sender(), "R 3, R 3, R 3" if refused else "no R 3"
+
+
+def receiver_bounds():
+    """Each state with a data or code octet and with a flag."""
+    for clause, at, beyond in RECEIVER_CLAUSES:
+        for states, refused in ((at, False), (beyond, True)):
+            for n, state in enumerate(states, 1):
+                commands = b"".join(state + receive(octet) + D for octet in (hx("31"), hx("D1"), FLAG))
+                name = f"{'beyond' if refused else 'at'} {n}: {clause}"
+                yield name, commands + show_receiver() + show_receiver(2047), "R 3, R 3, R 3" if refused else "no R 3"
+
+
+# --- Load
+HOLDS = sender(low=(4, 0), high=(4, 0))
+OUT = sender(low=(3, 0))
+TWO, ONE = hx("41 42"), hx("41")
+SHORT_LOW, SHORT_HIGH = lend((2049, 2050, 2051, 2051)), lend((2050, 2049, 2051, 2051))
+SHORT_FIRST, SHORT_SECOND = lend((2050, 2050, 2050, 2051)), lend((2050, 2050, 2051, 2050))
+
+
+def loads():
+    yield "low, 2 octets", open_sender(3) + load_low(TWO) + D + show_sender(), "D"
+    yield "high, 2 octets", open_sender(3) + load_high(TWO) + D + show_sender(), "D"
+    yield "position of an empty lane goes to 0", sender(low=(0, 1)) + load_low(TWO) + D, "D"
+    yield ("F and nothing beyond", open_sender(3) + fill(0, 0, hx("EE") * 20) + load_low(hx("00 00")) + show(0, 0, 20),
+           "D")
+    yield ("2,048 octets, area exactly long enough", open_sender(3) + fill(1, 2040, hx("EE") * 20)
+           + load_high(b"\x31" * 2048) + D + show(1, 2040, 20), "D")
+    yield "1: no octet", open_sender(3) + load_low(b"") + D, "R 1"
+    yield "1: 1 octet", open_sender(3) + load_low(ONE) + D, "R 1"
+    yield "1: 2,049 octets", open_sender(3) + load_high(b"\x31" * 2049) + D + show_sender(), "R 1"
+    yield ("4: two low loads running",
+           open_sender(3) + load_low(TWO) + load_low(hx("43 44")) + D + show_sender(), "D, R 4")
+    yield "4: two high loads running", open_sender(3) + load_high(TWO) + load_high(hx("43 44")) + D, "D, R 4"
+    yield ("a lane on the line, suspended or cut due does not hinder the other",
+           sender(low=(9, 2), left=3, line=1) + load_high(TWO) + D
+           + sender(low=(9, 2), suspended=1) + load_high(TWO) + D
+           + sender(low=(9, 2), line=1, cut=1) + load_high(TWO) + D + sender(high=(9, 2), left=3, line=2)
+           + load_low(TWO) + D, "D, D, D, D")
+
+
+def areas():
+    yield ("low one short: its load and next octet 2, high load not", open_sender(3) + SHORT_LOW + load_low(TWO)
+           + load_high(TWO) + next_octets(1) + D + show_sender(), "R 2, D, R 2")
+    yield ("high one short: its load and next octet 2, low load not", open_sender(3) + SHORT_HIGH + load_high(TWO)
+           + load_low(TWO) + next_octets(1) + D + show_sender(), "R 2, D, R 2")
+    yield ("receiver areas are none of the sender's", open_sender(3) + lend((2050, 2050, 0, 0)) + load_low(TWO)
+           + next_octets(1), "D, O 05")
+    yield "idle sender, area short", open_sender(3) + lend((2050, 0, 2051, 2051)) + next_octets(1) + D, "R 2"
+    yield ("first one short", open_receiver(3) + SHORT_FIRST + receive(hx("05 31 7E")) + D + show_receiver(),
+           "R 2, R 2, R 2")
+    yield ("second one short", open_receiver(3) + SHORT_SECOND + receive(hx("05 31 7E")) + D + show_receiver(),
+           "R 2, R 2, R 2")
+    yield ("sender areas are none of the receiver's", open_receiver(3) + lend((0, 0, 2051, 2051))
+           + receive(hx("05 31 7E")) + D + show_receiver(), "H 1 0")
+    yield ("longer areas", open_sender(3) + open_receiver(3) + lend((4096, 65535, 4096, 2052)) + load_low(TWO)
+           + next_octets(2) + receive(hx("05 31 7E")) + D, "D, O 05, O 41, H 1 0")
+    yield ("exactly long enough again", DEFAULT_LENGTHS + open_sender(3) + open_receiver(3) + load_low(TWO)
+           + load_high(TWO) + next_octets(1) + receive(hx("02 31 7E")) + D, "D, D, O 05, R 13")
+
+
+def orders():
+    yield "2 before 3, 4 and 1: low", SHORT_LOW + sender(low=(3, 0)) + load_low(ONE) + D, "R 2"
+    yield "2 before 3, 4 and 1: high", SHORT_HIGH + sender(high=(3, 0)) + load_high(b"") + D, "R 2"
+    yield "2 before 3, next octet", SHORT_HIGH + OUT + next_octets(1) + D, "R 2"
+    yield "2 before 3, receiver", SHORT_SECOND + receiver(decoded=1) + receive(FLAG) + D, "R 2"
+    yield "2 before 4", SHORT_LOW + HOLDS + load_low(TWO) + D, "R 2"
+    yield "2 before 1", SHORT_LOW + open_sender(3) + load_low(ONE) + D, "R 2"
+    yield "3 before 4 and 1", DEFAULT_LENGTHS + OUT + load_low(ONE) + D, "R 3"
+    yield "3 before 4", OUT + load_low(TWO) + D, "R 3"
+    yield "3 before 1", OUT + load_high(ONE) + D, "R 3"
+    yield "4 before 1", HOLDS + load_low(ONE) + load_high(b"\x31" * 2049) + D, "R 4, R 4"
+
+
+# --- Next octet, step by step
+def low_frame(octets):
+    return fill(0, 0, octets)
+
+
+def nexts():
+    yield "Idle", open_sender(3) + next_octets(2) + D, "I, I"
+    yield "step 1", sender(low=(9, 2), line=1, cut=1) + next_octets(1) + D, "O 7E"
+    yield "step 1, whole D covered", sender(low=(9, 10), line=1, cut=1) + next_octets(3) + D, "O 7E, O D1, O 7E"
+    yield "step 1, without PRE", sender(settings=0, low=(9, 2), line=1, cut=1) + next_octets(2) + D, "O 7E, O D1"
+    yield ("step 2, high before low", open_sender(3) + load_low(TWO) + load_high(hx("43 44")) + next_octets(2) + D,
+           "D, D, O 05, O 43")
+    yield "step 2, low alone", open_sender(3) + load_low(TWO) + next_octets(2) + D, "D, O 05, O 41"
+    yield "step 2, suspended low sends D1", sender(low=(9, 2), suspended=1) + next_octets(1) + D, "O D1"
+    yield ("step 2, high before a suspended low",
+           fill(1, 0, hx("41 42 43 44")) + sender(low=(9, 2), high=(4, 0), suspended=1)
+           + next_octets(1) + D, "O 05")
+    yield ("step 2, a lane begun without being on the line goes on", fill(1, 0, hx("41 42 43 44"))
+           + sender(high=(4, 2)) + next_octets(4) + D, "O 03, O 43, O 44, O 7E")
+    yield "step 3, low", sender(low=(9, 10), high=(4, 0), line=1) + next_octets(1) + D, "O 7E"
+    yield "step 3, high", sender(low=(9, 3), high=(4, 5), line=2, suspended=1) + next_octets(2) + D, "O 7E, O D1"
+    yield "step 3, put on the line by step 2", sender(low=(9, 10)) + next_octets(2) + D, "O 7E, I"
+    yield ("step 4, data left", sender(low=(90, 2), high=(4, 0), left=30, zeros=2, line=1) + next_octets(1) + D,
+           "O 7E")
+    yield ("step 4, none left", sender(low=(90, 2), high=(4, 0), line=1) + next_octets(1) + D + next_octets(1) + D
+           + next_octets(1) + D, "O 02, O 7E, O 05")
+    yield "step 4, settings FE", sender(settings=0xFE, low=(90, 2), high=(4, 0), line=1) + next_octets(1) + D, "O 02"
+    yield ("not step 4: no PRE",
+           low_frame(hx("41") * 90) + sender(settings=1, low=(90, 2), high=(4, 0), left=30, line=1)
+           + next_octets(1) + D + sender(settings=0xFD, low=(90, 2), high=(4, 0), line=1) + next_octets(1) + D,
+           "O 41, O 59")
+    yield ("not step 4: high on the line", fill(1, 0, hx("41") * 9) + sender(low=(90, 2), high=(9, 2), left=3, line=2)
+           + next_octets(1) + D, "O 41")
+    yield ("broken off straight after D1", low_frame(hx("41") * 90) + sender(low=(90, 2), suspended=1) + next_octets(1)
+           + load_high(TWO) + next_octets(9) + D,
+           "O D1, D, O 02, O 7E, O 05, O 41, O 42, O EF, O 31, O 7E, O D1")
+    yield ("step 5, last data octet and the zeros due", low_frame(hx("41 42 00 00 43"))
+           + sender(low=(9, 1), left=1, zeros=2, line=1) + next_octets(1) + D, "O 42")
+    yield ("step 5, 7E goes as 00", low_frame(hx("7E 42 00 00 43")) + sender(low=(9, 0), left=2, zeros=2, line=1)
+           + next_octets(1) + D, "O 00")
+    yield ("step 5, a zero in the area, and the phantom",
+           low_frame(hx("00 41 41 41 55")) + sender(low=(4, 0), left=1, line=1)
+           + next_octets(1) + D + sender(low=(4, 4), left=1, line=1) + next_octets(1) + D, "O 00, O 00")
+    for settings, code in ((0, "01"), (1, "D5"), (2, "01"), (3, "D5"), (0xFC, "01"), (0xFD, "D5")):
+        yield (f"step 6, all zeros, settings {settings:02X}", low_frame(bytes(10))
+               + sender(settings=settings, low=(4, 0), line=1) + next_octets(1) + D, f"O {code}")
+    for k, after, zxe, code in (
+            (0, 1, 1, "01"), (0, 2, 1, "E0"), (0, 2, 0, "01"), (0, 3, 1, "D3"), (0, 3, 0, "01"), (0, 15, 1, "DF"),
+            (0, 16, 1, "DF"), (1, 1, 1, "02"), (1, 2, 1, "E1"), (1, 2, 0, "02"), (29, 2, 1, "FD"), (30, 2, 1, "FE"),
+            (30, 9, 1, "FE"), (30, 1, 1, "1F"), (31, 2, 1, "20"), (30, 2, 0, "1F"), (125, 1, 1, "00"),
+            (124, 2, 1, "7D"), (205, 1, 1, "CE"), (206, 1, 1, "CF"), (206, 2, 1, "CF"),
+            (207, 1, 1, "D0"), (208, 2, 0, "D0")):
+        yield (f"step 6, {k} before {after} zeros{', ZXE' if zxe else ''}",
+               low_frame(hx("41") * k + bytes(after) + hx("41") * 4)
+               + sender(settings=zxe, low=(k + after + 4, 0), line=1) + next_octets(1) + D, f"O {code}")
+    yield ("step 6, the phantom is the second zero", low_frame(hx("41 41 41 00"))
+           + sender(low=(4, 0), line=1) + next_octets(5) + D, "O E3, O 41, O 41, O 41, O 7E")
+    yield ("step 6, the phantom is the third zero", low_frame(hx("41 41 00 00"))
+           + sender(low=(4, 2), line=1) + next_octets(2) + D, "O D3, O 7E")
+    yield "step 6, the phantom alone", sender(low=(4, 4), line=1) + next_octets(2) + D, "O 01, O 7E"
+
+
+def marked():
+    for name, settings, octets, sent in (
+            ("a", 3, "00 00", "E0 03 47 0F 7E"), ("b", 0, "00 00", "01 01 03 47 0F 7E"),
+            ("c", 3, "7E 7E", "05 00 00 6A FF 7E"),
+            ("d", 3, "31 32 33 34 35 36 37 38 39", "0C 31 32 33 34 35 36 37 38 39 6E 90 7E")):
+        line = hx(sent)
+        yield (f"({name}) sent", open_sender(settings) + load_low(hx(octets)) + next_octets(len(line) + 1) + D,
+               "D, " + ", ".join(f"O {o:02X}" for o in line) + ", I")
+        yield (f"({name}) received", open_receiver(settings) + receive(line) + D,
+               f"P 0 {len(hx(octets))} " + octets)
+    capture = hx("0C 31 32 33 7E 0C 31 32 33 34 35 36 37 38 39 6E 90 7E D1 09 34 35 36 37 38 39 6E 90 7E D3 7E")
+    nine = "31 32 33 34 35 36 37 38 39"
+    yield "(e)", open_receiver(3) + receive(capture) + D, f"H 3 0, P 1 9 {nine}, P 0 9 {nine}, R 13"
+    yield "(f)", open_receiver(3) + receive(hx("7E 7E")) + D, ""
+    yield "(g)", open_receiver(3) + receive(hx("05 31 7E")) + D + receive(hx("05 32 7E")) + D, "H 1 0, H 1 1"
+    yield ("(h) DB", open_receiver(3) + receive(hx("DF") * 136) + D + receive(hx("DB")) + D + receive(FLAG) + D, "R 14")
+    yield ("(h) DC", open_receiver(3) + receive(hx("DF") * 136) + D + receive(hx("DC")) + D + receive(FLAG) + D, "R 10")
+    for k, code in ((206, "CF"), (207, "D0")):
+        yield (f"(i) {k}", open_sender(3) + load_low(b"\x31" * k + b"\0") + next_octets(1) + D, f"D, O {code}")
+
+
+# --- Receiver
+def receivers():
+    for number, settings, octets in (
+            (5, 3, "FF 03 C0 21 7E"), (6, 0, "E0 7E"), (6, 2, "D3 7E"), (6, 1, "D1 01 7E"), (7, 3, "D2 7E"),
+            (7, 0, "D2 7E"), (7, 3, "01 FF 7E"), (7, 3, "01 D1 7E"), (8, 3, "D1 01 7E"), (8, 3, "D1 7E"),
+            (11, 0, "05 31 7E"), (11, 1, "05 7E"), (11, 0xFC, "05 31 7E"), (12, 3, "D0" + "31" * 207 + "7E"),
+            (12, 0, "D0" + "31" * 207 + "7E"), (13, 3, "D3 7E"), (13, 3, "01 7E"), (13, 3, "04 31 31 31 7E"),
+            (14, 3, "05 31 31 31 31 7E"), (14, 3, "D5 7E")):
+        yield f"{number}, settings {settings:02X}: {octets[:18]}", (
+            open_receiver(settings) + receive(hx(octets)[:-1]) + D + receive(FLAG) + D), f"R {number}"
+    yield "9", open_receiver(3) + receive(hx("05 31 7E D1")) + D + receive(FLAG) + D, "H 1 0, R 9"
+    yield ("10, DF 137 times",
+           open_receiver(3) + receive(hx("DF") * 136) + D + receive(hx("DF")) + D + receive(FLAG) + D, "R 10")
+    yield ("10, data octet", receiver(decoded=2051, left=2, zeros=1, **IN_OTHER) + receive(hx("31")) + D
+           + show_receiver(2047) + receive(hx("31 7E")) + D, "R 10")
+    yield ("10, last data octet fits, its zero does not", receiver(decoded=2050, left=1, zeros=1, **IN_OTHER)
+           + receive(hx("31")) + D + show_receiver(2047) + receive(FLAG), "R 10")
+    yield ("10, two zeros together",
+           fill(2, 2040, hx("EE") * 20) + receiver(decoded=2050, **IN_OTHER) + receive(hx("E0"))
+           + D + show_receiver(2047) + receive(FLAG), "R 10")
+    yield ("not 10, two zeros at 2,049", fill(2, 2040, hx("EE") * 20) + receiver(decoded=2049, **IN_OTHER)
+           + receive(hx("E0")) + D + show_receiver(2047) + receive(FLAG), "R 14")
+    yield ("Packet in the first area", open_receiver(3) + receive(hx("0C 31 32 33 34 35 36 37 38 39 6E 90")) + D
+           + receive(FLAG) + D + show_receiver(8), "P 0 9 31 32 33 34 35 36 37 38 39")
+    yield ("Packet in the second area",
+           receiver(work=1, held=3) + receive(hx("0C 31 32 33 34 35 36 37 38 39 6E 90 7E")) + D
+           + show_receiver(8), "P 1 9 31 32 33 34 35 36 37 38 39")
+    yield "Packet, longest", (fill(2, 0, bytes(2048) + fcs(bytes(2048)) + b"\0") + receiver(decoded=2051, **IN_OTHER)
+                              + receive(FLAG) + D), "P 0 2048" + " 00" * 2048
+    yield "Held, no octet", open_receiver(3) + receive(hx("05 7E")) + D, "H 0 0"
+    yield ("Held by a resumed frame is no replacement", open_receiver(3) + receive(hx("05 31 7E D1 04 32")) + D
+           + receive(FLAG) + D + show_receiver(), "H 1 0, H 2 0")
+    yield ("Held, replaced", receiver(held=0) + receive(hx("05 31 7E")) + D, "H 1 1")
+    yield ("resumed and whole", open_receiver(3) + receive(hx("0C 31 32 33 7E D1 09 34 35 36 37 38 39 6E 90 7E")) + D
+           + receive(hx("D1 01 7E")), "H 3 0, P 0 9 31 32 33 34 35 36 37 38 39, R 8")
+    yield ("resumed, another frame between", open_receiver(3)
+           + receive(hx("0C 31 32 33 7E 05 7E")) + D, "H 3 0, H 0 1")
+    yield ("resumed and refused leaves nothing held", receiver(held=5) + receive(hx("D1 D2")) + D + receive(FLAG) + D
+           + receive(hx("D1 7E")), "R 7, R 8")
+    yield ("resumed, FF after D1 is 7", receiver(held=5) + receive(hx("D1 FF")) + D + receive(FLAG) + D, "R 7")
+    yield ("resumed, D1 after D1 is 7", receiver(held=5) + receive(hx("D1 D1 7E")) + D, "R 7")
+    yield ("refused, not resumed, leaves what is held",
+           receiver(held=5) + receive(hx("D2 7E")) + D + receive(hx("FF 7E"))
+           + D + receive(hx("01 7E")) + D, "R 7, R 5, R 13")
+    yield ("delivered, not resumed, leaves what is held",
+           receiver(held=5) + receive(hx("E0 03 47 0F 7E")) + D, "P 0 2 00 00")
+    yield ("D1 without PRE, held: 6, and at its flag nothing held", receiver(settings=1, held=5) + receive(hx("D1")) + D
+           + receive(hx("31")) + D + receive(FLAG) + D, "R 6")
+    yield ("D1 accepted turns the areas, also the other way", receiver(work=1, held=2) + receive(hx("D1")) + D
+           + receive(hx("03 41 42")) + D + show_receiver() + receive(FLAG) + D, "R 14")
+    yield ("D1 onto the longest fragment: a code fits, nothing more", receiver(held=2051) + receive(hx("D1 02")) + D
+           + receive(hx("31")) + D + receive(FLAG) + D, "R 10")
+    yield "D1 onto 2,050: one zero more", receiver(held=2050) + receive(hx("D1 01")) + D + receive(FLAG) + D, "R 14"
+    yield ("00 is 7E as code and as data", open_receiver(3) + receive(hx("00")) + D + receive(hx("00 31")) + D
+           + show_receiver() + receive(FLAG) + D, "H 2 0")
+    yield ("a refused frame is skipped to its flag", open_receiver(3) + receive(hx("FF D1 01 D0 00 05 31")) + D
+           + receive(FLAG) + D, "R 5")
+    yield ("handed in: refusal with data left is skipped", receiver(decoded=3, left=5, zeros=1, frame=1, refusal=7)
+           + receive(hx("31 D2")) + D + receive(FLAG) + D, "R 7")
+    yield ("handed in: zeros due with none left are replaced", receiver(decoded=3, zeros=2, **IN_OTHER)
+           + receive(hx("03")) + D + show_receiver() + receive(hx("41 42")) + D + show_receiver() + receive(FLAG),
+           "R 14")
+    yield ("handed in: zeros due with none left is not inside a block", receiver(decoded=3, zeros=2, **IN_OTHER)
+           + receive(FLAG) + D, "R 13")
+    yield ("handed in: resumed, last block none, data left: D1 alone", receiver(decoded=3, left=2, frame=1, resumed=1)
+           + receive(FLAG) + D, "R 9")
+    yield ("handed in: last block D0, none left, nothing decoded",
+           receiver(last=1, frame=1) + receive(FLAG) + D, "R 12")
+    yield ("handed in: resumed with something held", receiver(decoded=3, held=4, left=2, resumed=1, **IN_OTHER)
+           + receive(FLAG) + D + receiver(decoded=3, held=4, resumed=1, **IN_OTHER) + receive(FLAG) + D, "H 3 0, R 13")
+    yield ("handed in: resumed without PRE, inside a block",
+           receiver(settings=0, decoded=3, held=4, left=2, resumed=1, **IN_OTHER)
+           + receive(FLAG) + D, "R 11")
+
+
+def other_settings():
+    """Settings with other bits set are as those without."""
+    zeros = hx("00 00 00 41 00 00")
+    for settings in (0x00, 0x01, 0x02, 0x03, 0xFC, 0xFD, 0xFE, 0xFF, 0x80):
+        first, code, resumed, inside = (
+            "O D3" if settings & 1 else "O 01", "R 14" if settings & 1 else "R 6",
+            "R 8" if settings & 2 else "R 6", "H 1 0" if settings & 2 else "R 11")
+        yield (f"settings {settings:02X}", open_sender(settings) + load_low(zeros) + next_octets(1) + D
+               + open_receiver(settings) + receive(hx("D5 7E D1 01 7E 05 31 7E")) + D,
+               f"D, {first}, {code}, {resumed}, {inside}")
+
+
+def code_answer(code, settings, before):
+    """What document 01 asks for a frame of `before` (nothing, 01 or D1) and this octet, then the flag."""
+    code = code or 0x7E
+    pre, zxe = settings & 2, settings & 1
+    if before == b"" and code == 0xFF:
+        return "R 5"
+    if before == b"" and code == 0xD1:
+        return "R 8" if pre else "R 6"
+    if code in (0xD1, 0xD2, 0xFF):
+        return "R 7"
+    if code >= 0xD3 and not zxe:
+        return "R 6"
+    decoded = {b"": 0, b"\x01": 1, b"\xd1": 3}[before]
+    if code in (0x01, 0xE0) or 0xD3 <= code <= 0xDF:
+        decoded += 1 if code == 0x01 else 2 if code == 0xE0 else code - 0xD0
+        return "R 13" if decoded - 1 < 4 else "R 14"
+    return f"H {decoded} 0" if pre else "R 11"
+
+
+def codes():
+    for settings in (0, 3):
+        for before, name in ((b"", "first octet"), (b"\x01", "later code")):
+            commands, answers = b"", []
+            for code in range(256):
+                commands += open_receiver(settings) + receive(before + bytes((code,))) + D + receive(FLAG)
+                if code == 0x7E:
+                    answers += ["R 13"] * (before != b"")
+                else:
+                    answers.append(code_answer(code, settings, before))
+            yield (f"every octet as {name}, settings {settings:02X}",
+                   fill(2, 0, b"\x31" * 20) + commands, ", ".join(answers))
+    commands, answers = b"", []
+    for code in [*range(0, 8), 0x7D, 0x7E, 0x7F, *range(0xCD, 0x100)]:
+        commands += receiver(held=3) + receive(b"\xd1" + bytes((code,))) + D + receive(FLAG)
+        answers.append("R 9" if code == 0x7E else code_answer(code, 3, b"\xd1"))
+    yield ("octets after D1 onto 3 held",
+           fill(2, 0, b"\x31" * 20) + fill(3, 0, b"\x31" * 20) + commands, ", ".join(answers))
+
+
+def script_format():
+    yield "area octet above 3", fill(6, 0, hx("AA BB")) + show(2, 0, 2) + show(254, 0, 2) + show(7, 0, 1), ""
+    yield "x to place 4,095", fill(1, 4094, hx("AA BB CC")) + show(1, 4094, 9) + show(1, 4095, 1) + show(1, 4096, 1), ""
+    yield "x of nothing", show(0, 0, 0) + show(0, 65535, 65535), ""
+    yield ("numbers too large count as remainders", hand_sender((259, 4, 0, 0, 0, 256, 258, 4, 2, 3)) + D
+           + hand_receiver((515, 0, 5, 65535, 257, 256, 5, 3, 2, 261)) + D, "")
+    yield "n of none, r of none", next_octets(0) + receive(b""), ""
+
+
+def last_command():
+    yield "last command cut short", open_sender(3) + load_low(TWO) + D + b"n\x05", "D, E"
+
+
+GROUPS = [
+    ("document 01's marked frames", marked),
+    ("load", loads),
+    ("lent areas", areas),
+    ("order of the call refusals", orders),
+    ("next octet", nexts),
+    ("receiver", receivers),
+    ("settings", other_settings),
+    ("in bounds, sender", sender_bounds),
+    ("in bounds, receiver", receiver_bounds),
+    ("codes", codes),
+    ("the script's own format", script_format),
+    ("end", last_command),
+]
+
+
+# ------------------------------------------------------------------------------------------------
+# Writing
+# ------------------------------------------------------------------------------------------------
+
+def answers_of(lines):
+    return [line for line in lines if line[0] not in "STX"]
+
+
+def as_asked(asked, answers):
+    if asked == "no R 3":
+        return "R 3" not in answers
+    return ", ".join(answers) == asked
+
+
+def write(path, data):
+    with open(path, "wb") as file:
+        file.write(data)
+
+
+def write_captures(programs, folder):
+    os.makedirs(folder, exist_ok=True)
+    for name, make in CAPTURES.items():
+        data = make(programs)
+        lines, counts = programs.of_model("capture", data), programs.of_model("count", data)
+        for ending, octets in ((".octets", data), (".lines", lines), (".counts", counts)):
+            write(os.path.join(folder, name + ending), octets)
+        seen = ", ".join(line for line in counts.decode().splitlines() if not line.endswith(" 0"))
+        print(f"capture {name}: {len(data)} octets; {seen or 'no report'}")
+
+
+def write_script(programs, folder, explain):
+    entries = [(f"{group}: {name}", commands, asked) for group, table in GROUPS for name, commands, asked in table()]
+    script, before, wrong = fill_all(), 0, 0
+    for name, commands, asked in entries:
+        script += commands
+        lines = programs.of_model("exercise", script).decode().splitlines()
+        answers = answers_of(lines[before:])
+        good = as_asked(asked, answers)
+        wrong += not good
+        print(f"script {name}" + ("" if good else f"\n  ASKED {asked}\n  MODEL {', '.join(answers)}"))
+        if explain:
+            for line in lines[before:]:
+                print("    " + line[:120])
+        before = len(lines)
+    if wrong:
+        sys.exit(f"{wrong} entries are not answered as asked; nothing stored")
+    out = programs.of_model("exercise", script)
+    write(os.path.join(folder, "stdin"), script)
+    write(os.path.join(folder, "stdout"), out)
+    print(f"script: {len(entries)} entries, {len(script)} octets, output {len(out)} octets")
+
+
+def main():
+    if [word for word in sys.argv[1:] if word != "--explain"]:
+        sys.exit(__doc__)
+    root = os.path.dirname(os.path.dirname(HERE))
+    captures = os.path.join(root, "tests", "captures")
+    with tempfile.TemporaryDirectory() as temporary:
+        programs = Programs(build_model(temporary), "", "")
+        write_captures(programs, captures)
+        write_script(programs, os.path.join(root, "crates", "exercise"), "--explain" in sys.argv)
+        for ending, name in ((".octets", "stdin"), (".counts", "stdout")):
+            with open(os.path.join(captures, "stale-fragment" + ending), "rb") as file:
+                write(os.path.join(root, "crates", "count", name), file.read())
+
+
+if __name__ == "__main__":
+    main()
