@@ -1,26 +1,19 @@
 // The capture reader (document 01, "Display, tally, capture program"): raw octets of a line on standard input, a line for each report on
 // standard output. Both settings are on. A frame that is not closed prints nothing.
+ghost use Prim.Native.Nat.{_≤_};
+ghost use lib.ListN.{length};
+ghost use Rattle.transcript.specs.Transcript.{longest};
 use libc::STDIN_FILENO;
 use libc::STDOUT_FILENO;
 use link::receiver::Receiver;
-use link::receiver::Report;
 
 // ZXE and PRE.
 const SETTINGS: u8 = 0x03;
-
-// More than the longest line takes: a packet that fills an area.
-const LONGEST_LINE: usize = 6200;
 
 // The receiver between reads. on: there may be more to read, and what was read is written.
 struct Turn {
     state: Receiver,
     on: bool,
-}
-
-// How far the page is filled. whole: all that was on it before is written.
-struct Page {
-    filled: usize,
-    whole: bool,
 }
 
 fn main() {
@@ -47,7 +40,9 @@ fn read(
     first: &mut [u8],
     second: &mut [u8],
     page: &mut [u8],
-) -> Turn {
+) -> Turn
+    requires { ⌜ longest ≤ length (now page) ⌝ }
+{
     let got = libc::read(STDIN_FILENO, buffer);
     if got < 0 {
         os::fail(
@@ -58,82 +53,30 @@ fn read(
         return Turn { state, on: false };
     }
     let n = io::count(got, buffer);
-    print(state, &buffer[..n], first, second, page)
+    write(state, &buffer[..n], first, second, page)
 }
 
-// The lines of a stretch of octets.
-fn print(
+// The lines of a stretch of octets, page after page.
+fn write(
     start: Receiver,
     octets: &[u8],
     first: &mut [u8],
     second: &mut [u8],
     page: &mut [u8],
-) -> Turn {
+) -> Turn
+    requires { ⌜ longest ≤ length (now page) ⌝ }
+{
     let mut state = start;
-    let mut filled = 0usize;
     let mut at = 0usize;
     while at < octets.len() {
-        let reached = reader::read_on(state, &octets[at..], first, second);
-        state = reached.state;
-        at += reached.used;
-        let report = reached.report;
-        let put = line(report, first, second, page, filled);
-        if !put.whole {
+        let printed = transcript::print(state, &octets[at..], first, second, page);
+        state = printed.state;
+        at += printed.used;
+        let filled = printed.filled;
+        if !io::write_all(STDOUT_FILENO, &page[0..filled]) {
+            os::fail(b"capture: standard output cannot be written; lines are missing");
             return Turn { state, on: false };
         }
-        filled = put.filled;
     }
-    let on = write_out(page, filled);
-    Turn { state, on }
-}
-
-// The line for a report, put on the page.
-fn line<'a>(
-    report: Report,
-    first: &'a [u8],
-    second: &'a [u8],
-    page: &mut [u8],
-    filled: usize,
-) -> Page {
-    let ready = room(page, filled);
-    let end = lines::report(report, octets(report, first, second), page, ready.filled);
-    Page {
-        filled: end,
-        whole: ready.whole,
-    }
-}
-
-// The octets of a packet; of any other report none.
-fn octets<'a>(report: Report, first: &'a [u8], second: &'a [u8]) -> &'a [u8] {
-    match report {
-        Report::Packet {
-            second: took,
-            length: n,
-        } => tally::shown(took, n, first, second),
-        Report::Quiet | Report::Held { .. } | Report::Refused(_) => &first[..0],
-    }
-}
-
-// Room for a line: a page that is too full is written out and begun anew.
-fn room(page: &[u8], filled: usize) -> Page {
-    if filled <= page.len() {
-        if LONGEST_LINE <= page.len() - filled {
-            return Page {
-                filled,
-                whole: true,
-            };
-        }
-    }
-    let whole = write_out(page, filled);
-    Page { filled: 0, whole }
-}
-
-fn write_out(page: &[u8], filled: usize) -> bool {
-    if filled <= page.len() {
-        if io::write_all(STDOUT_FILENO, &page[0..filled]) {
-            return true;
-        }
-    }
-    os::fail(b"capture: standard output cannot be written; lines are missing");
-    false
+    Turn { state, on: true }
 }

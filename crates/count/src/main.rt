@@ -49,25 +49,15 @@ fn read(turn: Turn, buffer: &mut [u8], first: &mut [u8], second: &mut [u8]) -> T
         return last;
     }
     let n = io::count(got, buffer);
-    note(turn, &buffer[..n], first, second)
-}
-
-// The reports of a stretch of octets are noted.
-fn note(turn: Turn, octets: &[u8], first: &mut [u8], second: &mut [u8]) -> Turn {
-    let mut state = turn.state;
-    let mut counts = turn.counts;
-    let mut at = 0usize;
-    while at < octets.len() {
-        let reached = reader::read_on(state, &octets[at..], first, second);
-        at += reached.used;
-        state = reached.state;
-        let report = reached.report;
-        counts = tally::note(counts, report);
-    }
+    let state = turn.state;
+    let counts = turn.counts;
+    let counted = transcript::count(state, counts, &buffer[..n], first, second);
+    let after = counted.state;
+    let sums = counted.counts;
     Turn {
-        state,
-        counts,
-        on: turn.on,
+        state: after,
+        counts: sums,
+        on: true,
     }
 }
 

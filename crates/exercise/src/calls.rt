@@ -61,41 +61,56 @@ pub(crate) fn run(
 ) -> Bench {
     let letter = command.letter;
     let head = command.head;
-    let lent = bench.lent;
     match letter {
         b'l' | b'h' | b'n' => {
-            let state = bench.sender;
-            let sending = Sending {
-                state,
-                filled: bench.filled,
-            };
-            sent(
-                bench,
-                send(sending, letter, head, lent, octets, low, high, page),
-            )
+            let after = send(
+                sender_of(bench),
+                letter,
+                head,
+                bench.lent,
+                octets,
+                low,
+                high,
+                page,
+            );
+            sent(bench, after)
         }
         b'r' => {
-            let state = bench.receiver;
-            let receiving = Receiving {
-                state,
-                filled: bench.filled,
-            };
-            received(bench, receive(receiving, lent, octets, first, second, page))
+            let after = receive(receiver_of(bench), bench.lent, octets, first, second, page);
+            received(bench, after)
         }
         b'f' => {
             fill(head, octets, low, high, first, second);
             bench
         }
-        b'x' => filled_to(
-            bench,
-            show(head, low, high, first, second, page, bench.filled),
-        ),
-        b'd' => {
-            let sender = bench.sender;
-            let receiver = bench.receiver;
-            filled_to(bench, answers::states(sender, receiver, page, bench.filled))
+        b'x' => {
+            let filled = show(head, low, high, first, second, page, bench.filled);
+            filled_to(bench, filled)
         }
+        b'd' => show_states(bench, page),
         _ => set(bench, letter, head),
+    }
+}
+
+fn show_states(bench: Bench, page: &mut [u8]) -> Bench {
+    let sender = bench.sender;
+    let receiver = bench.receiver;
+    filled_to(bench, answers::states(sender, receiver, page, bench.filled))
+}
+
+fn sender_of(bench: Bench) -> Sending {
+    let state = bench.sender;
+    Sending {
+        state,
+        filled: bench.filled,
+    }
+}
+
+fn receiver_of(bench: Bench) -> Receiving {
+    let state = bench.receiver;
+    Receiving {
+        state,
+        filled: bench.filled,
     }
 }
 

@@ -10,16 +10,22 @@ use lib.Dec.{leb}
 use lib.ListN.{length, set, length-append, length-set}
 use lib.Seq.{sets, sets-eq, length-sets}
 use Rattle.cobs.proofs.Tests.{branch, decide}
+use Rattle.link.specs.Receiver.{write}
 use Rattle.link.proofs.Write.{length-write}
 use Rattle.lines.specs.Lines.{Page, append}
 use Rattle.lines.proofs.Stored.{sets-append}
 
 module _ (a : List ℕ) (f : ℕ) (xs : List ℕ) where
-  -- where it fits, its octets are stored one by one,
+  -- where it fits, its octets are stored one by one
   pub stored : f + length xs ≤ length a
       → _≡_ {A = Page} (record { area = sets a f xs; filled = f + length xs }) (append (record { area = a; filled = f }) xs)
   unfolding append
   stored h = rw (le-leb _ _ h, sets-eq xs a f h)
+
+  -- and are written together,
+  pub written : f + length xs ≤ length a → append (record { area = a; filled = f }) xs ≡ record { area = write a f xs; filled = f + length xs }
+  unfolding append
+  written h = rw (le-leb _ _ h)
 
   -- and where not, nothing changes
   pub no-room : length a < f + length xs → _≡_ {A = Page} (record { area = a; filled = f }) (append (record { area = a; filled = f }) xs)

@@ -1,6 +1,6 @@
 -- The length of a line.
 -- Assumes nothing.
-use mathlib.Core.Path.{_≡_}
+use mathlib.Core.Path.{_≡_, refl}
 use mathlib.Core.Bool.{true, false}
 use mathlib.Core.List.{List, [], _∷_, _++_}
 use Prim.Native.Nat.{ℕ, _+_, _*_, _≤_, _<_}
@@ -28,6 +28,11 @@ number quiet = 0
 number done = 0
 number (octet x) = 0
 number idle = 0
+
+-- Quiet has no line
+pub quiet-none : (shown : List ℕ) → reportLine quiet shown ≡ []
+unfolding reportLine
+quiet-none shown = refl
 
 -- a line's most, where its number is one of 16 bits
 pub report-most : (a : Answer) (shown : List ℕ) → number a < 65536 → length (reportLine a shown) ≤ 3 * length shown + 10

@@ -14,7 +14,7 @@ use Rattle.reader.specs.Reading.{isQuiet, Reach, further, readOn}
 use Rattle.reader.specs.NothingLost.{answers, Reading, AsTheCalls, loud, reporting, reports, call, GoesOn, FirstThenRest, Cut, Cuts, Run, through, throughAll, AnyCutting}
 use Rattle.reader.proofs.Steps.{from-quiet, at-report}
 
-is-quiet : (a : Answer) → isQuiet a ≡ true → a ≡ quiet
+pub is-quiet : (a : Answer) → isQuiet a ≡ true → a ≡ quiet
 is-quiet done q = cc
 is-quiet (octet x) q = cc
 is-quiet idle q = cc
@@ -80,7 +80,7 @@ unfolding readOn receives loud
 first-then-rest e [] = record { calls = refl; answers = refl }
 first-then-rest e (x ∷ xs) = goes-on e x xs (isQuiet (receive e x .report)) refl (first-then-rest (receive e x .after) xs)
 
-received-append : (e : Receiving) (xs ys : List ℕ) → received e (xs ++ ys) ≡ received (received e xs) ys
+pub received-append : (e : Receiving) (xs ys : List ℕ) → received e (xs ++ ys) ≡ received (received e xs) ys
 unfolding received
 received-append e [] ys = refl
 received-append e (x ∷ xs) ys = received-append (receive e x .after) xs ys
@@ -111,10 +111,11 @@ cuts e xs ys =
 -- ---- a program that reads a line in stretches
 
 -- a stretch read on from where a reading stopped ends where the calls for all of it end
-goes-through : (e : Receiving) (xs : List ℕ) (r : Reach) → Reading e xs r → received (r .after) (drop (r .used) xs) ≡ received e xs
+pub goes-through : (e : Receiving) (xs : List ℕ) (r : Reach) → Reading e xs r → received (r .after) (drop (r .used) xs) ≡ received e xs
 goes-through e xs r k = rw (k .after, ← received-append, take-append-drop)
 
-told : (e : Receiving) (xs : List ℕ) (r : Reach) (b : Bool) → isQuiet (r .report) ≡ b → Reading e xs r → GoesOn e xs r
+-- the report of a reading, and those of the calls that go on from where it stopped
+pub told : (e : Receiving) (xs : List ℕ) (r : Reach) (b : Bool) → isQuiet (r .report) ≡ b → Reading e xs r → GoesOn e xs r
     → (if isQuiet (r .report) then reporting (r .after) (drop (r .used) xs) else call r ∷ reporting (r .after) (drop (r .used) xs)) ≡ reporting e xs
 unfolding receives loud
 told e xs r true q k g =

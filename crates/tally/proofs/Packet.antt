@@ -4,8 +4,12 @@ use mathlib.Core.List.{List}
 use mathlib.Core.Option.{some}
 use mathlib.Core.Path.{_≡_, ap, subst, _∙_}
 use Prim.Native.Nat.{ℕ, _≤_}
+use native.Mathlib.Omega.{arith}
 use borrow.Author.Tests.{le-leb}
-use lib.ListN.{length, take}
+use lib.Dec.{leb}
+use lib.ListN.{length, take, length-take}
+use Rattle.cobs.proofs.Tests.{branch}
+use Rattle.link.specs.Agreed.{agreed}
 use Rattle.link.specs.Answers.{Answer}
 use Rattle.link.specs.Receiver.{areaOf, receive}
 use Rattle.link.specs.Runs.{standsFor}
@@ -16,8 +20,13 @@ front-all : (n : ℕ) (area : List ℕ) → n ≤ length area → take n area �
 unfolding front
 front-all n area h = rw (le-leb n (length area) h)
 
+-- no more than n octets are shown
+pub front-most : (n : ℕ) (area : List ℕ) → length (front n area) ≤ n
+unfolding front
+front-most n area = branch (λ (l : List ℕ). length l ≤ n) (leb n (length area)) (λ _. omega (arith, length-take n area)) (λ _. omega arith)
+
 pub shows-the-packet : ShowsThePacket
 shows-the-packet e x second n p =
     let after = receive e x .after in
-    let l : n ≤ length (areaOf second after) = subst (λ (a : Answer). Within a after) p (within e x) in
+    let l : n ≤ length (areaOf second after) = subst (λ (a : Answer). Within (agreed (e .state .settings)) a after) p (within e x) .0 in
     ap (λ (a : Answer). standsFor a after) p ∙ ap some (front-all n (areaOf second after) l)

@@ -62,6 +62,11 @@ has-place (refused n) =
 
 -- ---- one report
 
+-- Quiet raises no count
+pub note-quiet : (t : Tally) → note t quiet ≡ t
+unfolding note place
+note-quiet t = refl
+
 raised-is : (n : ℕ) → n ≤ largest → raised n ≡ min largest (n + 1)
 raised-is n h =
     branch (λ m. m ≡ min largest (n + 1)) (ltb n largest) (λ e. let l = ltb-true n largest e in omega arith) (λ e. let l = ltb-false n largest e in omega arith)

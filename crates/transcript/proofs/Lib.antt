@@ -1,0 +1,4 @@
+-- Laws: a reading's report noted, and its line on the page. NothingLeftOut: the theorems.
+pub mod Counting
+pub mod Printing
+pub mod NothingLeftOut

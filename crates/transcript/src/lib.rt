@@ -1,0 +1,135 @@
+// What a stretch of a line comes to: its reports as lines on a page, and as counts (document 01, "Display, tally, capture program"). A program
+// reads, calls, and writes; all else it does is here.
+ghost use mathlib.Core.Path.{_≡_};
+ghost use Prim.Native.Nat.{min, _/_, _≤_};
+ghost use lib.ListN.{length};
+ghost use Rattle.link.specs.Answers.{report};
+ghost use Rattle.link.specs.Runs.{received};
+ghost use Rattle.reader.specs.NothingLost.{reports};
+ghost use Rattle.tally.specs.Sums.{noted};
+ghost use Rattle.lines.specs.Lines.{append, reportLine};
+ghost use Rattle.transcript.specs.Transcript.{shownOf, longest, print};
+use link::receiver::Receiver;
+use link::receiver::Report;
+use tally::Tally;
+
+// ---- lines
+
+// No line is longer: 3 octets for each of the largest packet's, and 10.
+pub const LONGEST_LINE: usize = 6154;
+
+// The receiver after the octets used, how many octets of the page are filled, and how many of the stretch were used.
+pub struct Printed {
+    pub state: Receiver,
+    pub filled: usize,
+    pub used: usize,
+}
+
+// The octets of a reported packet; of any other report none.
+fn octets<'a>(given: Report, first: &'a [u8], second: &'a [u8]) -> &'a [u8]
+    ensures { λ r. ⌜ now r ≡ shownOf (report given) (now (first .entry)) (now (second .entry)) ⌝ }
+{
+    match given {
+        Report::Packet {
+            second: took,
+            length: n,
+        } => tally::shown(took, n, first, second),
+        Report::Quiet => &first[0..0],
+        Report::Held { .. } => &first[0..0],
+        Report::Refused(_) => &first[0..0],
+    }
+}
+
+// The line for a report, put on the page.
+fn line<'a>(
+    given: Report,
+    first: &'a [u8],
+    second: &'a [u8],
+    page: &mut [u8],
+    filled: usize,
+) -> usize
+    ensures { λ r. ⌜ record { area = now (page .exit); filled = r }
+        ≡ append (record { area = now (page .entry); filled = filled })
+        (reportLine (report given) (shownOf (report given) (now (first .entry)) (now (second .entry)))) ⌝ }
+{
+    lines::report(given, octets(given, first, second), page, filled)
+}
+
+// Reads on over the octets and puts the line of each report on the page, from its start, until the octets are used up or the page has no
+// room for the longest line.
+pub fn print(
+    state: Receiver,
+    octets: &[u8],
+    first: &mut [u8],
+    second: &mut [u8],
+    page: &mut [u8],
+) -> Printed
+    ensures { λ r. ⌜ record {
+      after = record { state = r .state; first = now (first .exit); second = now (second .exit) };
+      page = record { area = now (page .exit); filled = r .filled };
+      used = r .used;
+    }
+        ≡ print
+        (record { state = state; first = now (first .entry); second = now (second .entry) })
+        (now (octets .entry))
+        (now (page .entry)) ⌝ }
+    ensures { λ r. ⌜ (r .used ≤ length (now (octets .entry)))
+        × (r .filled ≤ length (now (page .entry)))
+        × (min 1 (min (length (now (octets .entry))) (length (now (page .entry)) / longest)) ≤ r .used) ⌝ }
+{
+    let mut end = state;
+    let mut filled = 0usize;
+    let mut at = 0usize;
+    while at < octets.len() {
+        if page.len() - filled < LONGEST_LINE {
+            break;
+        }
+        let reached = reader::read_on(end, &octets[at..], first, second);
+        end = reached.state;
+        at += reached.used;
+        let report = reached.report;
+        filled = line(report, first, second, page, filled);
+    }
+    Printed {
+        state: end,
+        filled,
+        used: at,
+    }
+}
+
+// ---- counts
+
+// The receiver after a stretch, and the counts.
+pub struct Counted {
+    pub state: Receiver,
+    pub counts: Tally,
+}
+
+// Every report of the octets noted.
+pub fn count(
+    state: Receiver,
+    counts: Tally,
+    octets: &[u8],
+    first: &mut [u8],
+    second: &mut [u8],
+) -> Counted
+    ensures { λ r. ⌜ r .counts
+        ≡ noted counts (reports (record { state = state; first = now (first .entry); second = now (second .entry) }) (now (octets .entry))) ⌝ }
+    ensures { λ r. ⌜ record { state = r .state; first = now (first .exit); second = now (second .exit) }
+        ≡ received (record { state = state; first = now (first .entry); second = now (second .entry) }) (now (octets .entry)) ⌝ }
+{
+    let mut end = state;
+    let mut sums = counts;
+    let mut i = 0usize;
+    while i < octets.len() {
+        let reading = reader::read_on(end, &octets[i..], first, second);
+        end = reading.state;
+        i += reading.used;
+        let report = reading.report;
+        sums = tally::note(sums, report);
+    }
+    Counted {
+        state: end,
+        counts: sums,
+    }
+}
