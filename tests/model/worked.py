@@ -2,6 +2,8 @@
 import subprocess
 import sys
 
+from compare import fcs
+
 MODEL = sys.argv[1]
 
 
@@ -49,15 +51,6 @@ def received(settings, octets):
 
 
 # Check sequence
-def fcs(packet):
-    register = 0xFFFF
-    for octet in packet:
-        register ^= octet
-        for _ in range(8):
-            register = (register >> 1) ^ (0x8408 if register & 1 else 0)
-    return (register ^ 0xFFFF).to_bytes(2, "little")
-
-
 check("FCS of 123456789 is 906E", fcs(b"123456789"), hx("6E90"))
 
 # Marked frames
@@ -120,7 +113,6 @@ print("bounds and ways back done")
 out = run("exercise", b"o\3" + b"l" + octs(hx("00 00 00 31 32 33 34 35")) + b"n" + num(1) + b"h" + octs(hx("4142"))
           + b"n" + num(2 + 6 + 1) + b"h" + octs(hx("4344")) + b"n" + num(2 + 6) + b"n" + num(11))
 octets = bytes.fromhex("".join(line[2:] for line in out.splitlines() if line[0] == "O"))
-print(octets.hex(" ").upper())
-print(run("capture", octets))
+check("cut between blocks, and after D1", run("capture", octets), "H 3 0\nP 2 41 42\nH 3 0\nP 2 43 44\nP 8 00 00 00 31 32 33 34 35\n")
 
 sys.exit(failures != 0)
