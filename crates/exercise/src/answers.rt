@@ -11,12 +11,12 @@ use link::sender::Sender;
 const LONGEST_LINE: usize = 12320;
 
 fn write_out(page: &[u8], filled: usize) {
-    if page.len() < filled {
-        return;
+    if filled <= page.len() {
+        if io::write_all(STDOUT_FILENO, &page[0..filled]) {
+            return;
+        }
     }
-    if !io::write_all(STDOUT_FILENO, &page[0..filled]) {
-        os::fail(b"exercise: standard output cannot be written, lines are missing");
-    }
+    os::fail(b"exercise: standard output cannot be written; lines are missing");
 }
 
 // Room for a line: a page that is too full is written out and begun anew.
@@ -42,10 +42,9 @@ fn field(n: u64, page: &mut [u8], filled: usize) -> usize {
     lines::decimal(n, page, behind)
 }
 
+// A refused call has the line of a refused frame.
 fn refused(n: u8, page: &mut [u8], filled: usize) -> usize {
-    let behind = lines::text(b"R", page, filled);
-    let end = field(n as u64, page, behind);
-    lines::text(b"\n", page, end)
+    lines::report(Report::Refused(n), b"", page, filled)
 }
 
 pub(crate) fn load(answer: LoadAnswer, page: &mut [u8], filled: usize) -> usize {

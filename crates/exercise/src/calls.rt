@@ -28,6 +28,7 @@ struct Lent {
     second: u16,
 }
 
+// What stands between two commands: both ends, what is lent to them, and how far the page is filled.
 pub(crate) struct Bench {
     sender: Sender,
     receiver: Receiver,

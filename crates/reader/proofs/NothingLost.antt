@@ -4,6 +4,7 @@ use mathlib.Core.Path.{_≡_, refl, sym, ap, _∙_}
 use mathlib.Core.Bool.{Bool, true, false}
 use mathlib.Core.List.{List, [], _∷_, _++_, map, map-append, flatten}
 use Prim.Native.Nat.{ℕ, zero, suc, _+_, _-_, _≤_, _<_}
+use native.Mathlib.Numerals.{one-add}
 use native.Mathlib.Omega.{arith}
 use Rattle.fcs.specs.Notation.{if_then_else_}
 use lib.ListN.{length, take, drop, replicate, take-append-drop, length-drop, drop-of-length-le}
@@ -24,9 +25,6 @@ is-quiet (held n b) q = cc
 is-quiet (refused n) q = cc
 
 -- ---- one reading
-
-one-add : (n : ℕ) → 1 + n ≡ suc n
-one-add n = omega arith
 
 suc-sub-one : (n : ℕ) → suc n - 1 ≡ n
 suc-sub-one n = omega arith

@@ -5,6 +5,7 @@ use mathlib.Core.Bool.{Bool, true, false}
 use mathlib.Core.List.{List, [], _∷_, _++_, append-assoc, flatMap, flatten, foldl-append}
 use Prim.Native.Nat.{ℕ, zero, suc, _+_, _≤_, _<_}
 use native.Mathlib.Nat.{zero-add}
+use native.Mathlib.Numerals.{one-add}
 use native.Mathlib.Omega.{arith}
 use borrow.Author.Tests.{ltb-true, ltb-false}
 use lib.Dec.{ltb}
@@ -27,7 +28,7 @@ use Rattle.lines.proofs.Append.{written, append-none, append-append, page-lengt
 use Rattle.lines.proofs.Lengths.{report-most}
 use Rattle.transcript.specs.Transcript.{shownOf, lineOf, linesOf, longest, Transcript, further, printOn, print}
 use Rattle.transcript.specs.NothingLeftOut.{NothingLeftOut, Output, through, throughAll, Whole, AnyCutting, countAll, AllCounted}
-use Rattle.transcript.proofs.Printing.{one-add, quiet-line}
+use Rattle.transcript.proofs.Printing.{quiet-line}
 
 -- ---- no line is longer than the longest
 

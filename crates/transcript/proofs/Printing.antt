@@ -5,6 +5,7 @@ use mathlib.Core.Bool.{Bool, true, false}
 use mathlib.Core.List.{List, [], _∷_}
 use Prim.Native.Nat.{ℕ, suc, _+_, _-_, _≤_, _<_}
 use native.Mathlib.Nat.{zero-add, add-zero, add-assoc}
+use native.Mathlib.Numerals.{one-add}
 use native.Mathlib.Omega.{arith}
 use borrow.Author.Tests.{lt-ltb, le-ltb}
 use borrow.Rule.Slice.PartAt.{part-to-end}
@@ -32,9 +33,6 @@ quiet-page h p q = rw (quiet-line h q) (sym (append-none p))
 -- octets used
 abbrev having : Transcript → ℕ → Transcript
 having t n = record { after = t .after; page = t .page; used = n }
-
-pub one-add : (n : ℕ) → 1 + n ≡ suc n
-one-add n = omega arith
 
 further-further : (m n : ℕ) (t : Transcript) → further m (further n t) ≡ further (m + n) t
 further-further m n t = ap (having t) (sym (add-assoc m n (t .used)))
