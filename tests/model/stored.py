@@ -158,6 +158,33 @@ def edges(programs):
     ))
 
 
+def with_check_of_zeros(body):
+    """The octets and two more, so that their FCS is 00 00."""
+    def fed(register, octets):
+        for octet in octets:
+            register ^= octet
+            for _ in range(8):
+                register = (register >> 1) ^ (0x8408 if register & 1 else 0)
+        return register
+
+    start = fed(0xFFFF, body)
+    ends = (bytes((a, b)) for a in range(256) for b in range(256))
+    whole = body + next(end for end in ends if fed(start, end) == 0xFFFF)
+    assert fcs(whole) == bytes(2)
+    return whole
+
+
+def check_of_zeros(programs):
+    """Packets whose FCS is 00 00: with the phantom three zeros stand at the end of D, and more where the packet ends in zeros."""
+    rng = random.Random(9)
+    bodies = [b"", b"\x31", bytes(1), b"\x31" + bytes(1), bytes(5)] + [zero_free(rng, n) for n in (27, 28, 29, 30, 203, 204, 205, 206, 300)]
+    parts = [b"o\x03"]
+    for body in bodies:
+        whole = with_check_of_zeros(body)
+        parts.append(load_low(whole) + next_octets(2 * len(whole) + 9))
+    return sent_by_model(programs, b"".join(parts))
+
+
 def unclosed(programs):
     return short_line(programs, random.Random(8), 4) + hx("0C 31 32 33 7E 0C 31 32 33 34 35 36")
 
@@ -178,6 +205,7 @@ CAPTURES = {
     "lost-flags": lost_flags,
     "stale-fragment": stale_fragment,
     "edges": edges,
+    "check-of-zeros": check_of_zeros,
     "unclosed": unclosed,
     "empty": empty,
     "all-octets": all_octets,

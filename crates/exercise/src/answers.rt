@@ -7,12 +7,79 @@ use link::sender::LoadAnswer;
 use link::sender::NextAnswer;
 use link::sender::Sender;
 
-// More than the longest line takes: an area shown whole.
-const LONGEST_LINE: usize = 12320;
+// A page filled no further has room for the longest line, an area shown whole.
+const ROOM: usize = 53216;
 
-fn write_out(page: &[u8], filled: usize) {
-    if filled <= page.len() {
-        if io::write_all(STDOUT_FILENO, &page[0..filled]) {
+// A line: its letter, so many numbers, and an octet where `octets` is 1.
+pub(crate) struct Line {
+    letter: u8,
+    numbers: [u64; 10],
+    count: usize,
+    octet: u8,
+    octets: usize,
+}
+
+pub(crate) fn plain(letter: u8, count: usize, a: u64, b: u64) -> Line {
+    Line {
+        letter,
+        numbers: [a, b, 0, 0, 0, 0, 0, 0, 0, 0],
+        count,
+        octet: 0,
+        octets: 0,
+    }
+}
+
+fn octet(x: u8) -> Line {
+    let mut sent = plain(b'O', 0, 0, 0);
+    sent.octet = x;
+    sent.octets = 1;
+    sent
+}
+
+fn refused(n: u8) -> Line {
+    plain(b'R', 1, n as u64, 0)
+}
+
+pub(crate) fn loaded(answer: LoadAnswer) -> Line {
+    match answer {
+        LoadAnswer::Done => plain(b'D', 0, 0, 0),
+        LoadAnswer::Refused(n) => refused(n),
+    }
+}
+
+pub(crate) fn sent(answer: NextAnswer) -> Line {
+    match answer {
+        NextAnswer::Octet(x) => octet(x),
+        NextAnswer::Idle => plain(b'I', 0, 0, 0),
+        NextAnswer::Refused(n) => refused(n),
+    }
+}
+
+// The line of a report that is not Quiet, without a packet's octets.
+fn reported(report: Report) -> Line {
+    match report {
+        Report::Quiet => plain(b' ', 0, 0, 0),
+        Report::Packet { second, length } => plain(b'P', 2, second as u64, length as u64),
+        Report::Held { count, replaced } => plain(b'H', 2, count as u64, replaced as u64),
+        Report::Refused(n) => refused(n),
+    }
+}
+
+// The line of a state.
+pub(crate) fn ten(letter: u8, numbers: [u64; 10]) -> Line {
+    Line {
+        letter,
+        numbers,
+        count: 10,
+        octet: 0,
+        octets: 0,
+    }
+}
+
+pub(crate) fn write_out(page: &[u8; 65536], filled: usize) {
+    let all: &[u8] = page;
+    if filled <= 65536 {
+        if io::write_all(STDOUT_FILENO, &all[0..filled]) {
             return;
         }
     }
@@ -20,77 +87,54 @@ fn write_out(page: &[u8], filled: usize) {
 }
 
 // Room for a line: a page that is too full is written out and begun anew.
-fn room(page: &[u8], filled: usize) -> usize {
-    if filled <= page.len() {
-        if LONGEST_LINE <= page.len() - filled {
-            return filled;
-        }
+fn room(page: &[u8; 65536], filled: usize) -> usize {
+    if filled <= ROOM {
+        return filled;
     }
     write_out(page, filled);
     0
 }
 
-// The last line, and the page is written out.
-pub(crate) fn last(line: &[u8], page: &mut [u8], filled: usize) {
-    let ready = room(page, filled);
-    let end = lines::text(line, page, ready);
-    write_out(page, end);
-}
-
-fn field(n: u64, page: &mut [u8], filled: usize) -> usize {
-    let behind = lines::text(b" ", page, filled);
-    lines::decimal(n, page, behind)
-}
-
-// A refused call has the line of a refused frame.
-fn refused(n: u8, page: &mut [u8], filled: usize) -> usize {
-    lines::report(Report::Refused(n), b"", page, filled)
-}
-
-pub(crate) fn load(answer: LoadAnswer, page: &mut [u8], filled: usize) -> usize {
-    let ready = room(page, filled);
-    match answer {
-        LoadAnswer::Done => lines::text(b"D\n", page, ready),
-        LoadAnswer::Refused(n) => refused(n, page, ready),
+// The first so many of the numbers, a space before each.
+fn fields(
+    numbers: [u64; 10],
+    count: usize,
+    space: &[u8],
+    page: &mut [u8; 65536],
+    filled: usize,
+) -> usize {
+    let mut end = filled;
+    let mut i = 0;
+    while i < count % 11 {
+        let behind = lines::text(space, page, end);
+        end = lines::decimal(numbers[i], page, behind);
+        i += 1;
     }
+    end
 }
 
-pub(crate) fn next(answer: NextAnswer, page: &mut [u8], filled: usize) -> usize {
+// A line and the octets shown at its end.
+pub(crate) fn print_with(line: Line, shown: &[u8], page: &mut [u8; 65536], filled: usize) -> usize {
     let ready = room(page, filled);
-    match answer {
-        NextAnswer::Octet(x) => {
-            let list = [x];
-            octets(b"O", &list, page, ready)
-        }
-        NextAnswer::Idle => lines::text(b"I\n", page, ready),
-        NextAnswer::Refused(n) => refused(n, page, ready),
-    }
+    let signs = [line.letter, b' ', b'\n'];
+    let begun = lines::text(&signs[0..1], page, ready);
+    let numbers = line.numbers;
+    let told = fields(numbers, line.count, &signs[1..2], page, begun);
+    let end = lines::octets(shown, page, told);
+    lines::text(&signs[2..3], page, end)
 }
 
-// A line of octets.
-fn octets(begins: &[u8], list: &[u8], page: &mut [u8], filled: usize) -> usize {
-    let behind = lines::text(begins, page, filled);
-    let end = lines::octets(list, page, behind);
-    lines::text(b"\n", page, end)
-}
-
-pub(crate) fn area(list: &[u8], page: &mut [u8], filled: usize) -> usize {
-    let ready = room(page, filled);
-    octets(b"X", list, page, ready)
-}
-
-fn packet(second: bool, count: u16, shown: &[u8], page: &mut [u8], filled: usize) -> usize {
-    let behind = lines::text(b"P", page, filled);
-    let took = field(second as u64, page, behind);
-    let counted = field(count as u64, page, took);
-    octets(b"", shown, page, counted)
+pub(crate) fn print(line: Line, page: &mut [u8; 65536], filled: usize) -> usize {
+    let octet = [line.octet];
+    let n = line.octets % 2;
+    print_with(line, &octet[0..n], page, filled)
 }
 
 pub(crate) fn report<'a>(
     report: Report,
     first: &'a [u8],
     second: &'a [u8],
-    page: &mut [u8],
+    page: &mut [u8; 65536],
     filled: usize,
 ) -> usize {
     match report {
@@ -98,38 +142,17 @@ pub(crate) fn report<'a>(
         Report::Packet {
             second: took,
             length: count,
-        } => {
-            let ready = room(page, filled);
-            packet(
-                took,
-                count,
-                tally::shown(took, count, first, second),
-                page,
-                ready,
-            )
-        }
-        Report::Held { .. } | Report::Refused(_) => {
-            let ready = room(page, filled);
-            lines::report(report, &first[..0], page, ready)
-        }
+        } => print_with(
+            reported(report),
+            tally::shown(took, count, first, second),
+            page,
+            filled,
+        ),
+        Report::Held { .. } | Report::Refused(_) => print(reported(report), page, filled),
     }
 }
 
-// A letter and the ten numbers of a state.
-fn numbers(letter: &[u8], list: &[u64], page: &mut [u8], filled: usize) -> usize {
-    let mut end = lines::text(letter, page, filled);
-    let mut i = 0;
-    while i < list.len() {
-        end = field(list[i], page, end);
-        i += 1;
-    }
-    lines::text(b"\n", page, end)
-}
-
-pub(crate) fn states(s: Sender, r: Receiver, page: &mut [u8], filled: usize) -> usize {
-    let ready = room(page, filled);
-    let sender = states::sender_numbers(s);
-    let end = numbers(b"S", &sender, page, ready);
-    let receiver = states::receiver_numbers(r);
-    numbers(b"T", &receiver, page, end)
+pub(crate) fn states(s: Sender, r: Receiver, page: &mut [u8; 65536], filled: usize) -> usize {
+    let end = print(states::sender_line(s), page, filled);
+    print(states::receiver_line(r), page, end)
 }

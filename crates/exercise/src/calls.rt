@@ -1,39 +1,32 @@
-// The commands, carried out.
+// The commands, carried out. The areas lie in two arrays: low and first in `even`, high and second in `odd`, each in a half of 4,096 octets.
 ghost use Prim.Native.Nat.{_≤_};
 ghost use lib.ListN.{length};
 use crate::answers;
 use crate::script::Command;
 use crate::script::number;
+use crate::script::octet;
 use crate::states;
 use link::receiver::Receiver;
 use link::sender::Lane;
 use link::sender::Sender;
 
-// A sender, a receiver, and how far the page is filled with their answers.
-struct Sending {
-    state: Sender,
-    filled: usize,
-}
-
-struct Receiving {
-    state: Receiver,
-    filled: usize,
-}
+const AREA: usize = 4096;
 
 // How many octets are lent of each area.
 struct Lent {
-    low: u16,
-    high: u16,
-    first: u16,
-    second: u16,
+    low: usize,
+    high: usize,
+    first: usize,
+    second: usize,
 }
 
-// What stands between two commands: both ends, what is lent to them, and how far the page is filled.
+// What stands between two commands: both ends, what is lent to them, how far the page is filled, and whether the script is at its end.
 pub(crate) struct Bench {
     sender: Sender,
     receiver: Receiver,
     lent: Lent,
     pub(crate) filled: usize,
+    pub(crate) ended: bool,
 }
 
 pub(crate) fn open() -> Bench {
@@ -47,105 +40,98 @@ pub(crate) fn open() -> Bench {
             second: 2051,
         },
         filled: 0,
+        ended: false,
+    }
+}
+
+// Where a command works: in a part of the even or of the odd array, with a sender, with a receiver, or on none of these.
+enum At {
+    Even,
+    Odd,
+    Sender,
+    Receiver,
+    Elsewhere,
+}
+
+struct Place {
+    at: At,
+    start: usize,
+    end: usize,
+}
+
+// So many octets of an area from a place on, as far as it goes.
+fn within(area: u8, from: u16, n: usize) -> Place
+    ensures { λ r. ⌜ (r .start ≤ r .end) × (r .end ≤ 8192) ⌝ }
+{
+    let at = if area % 2 == 0 { At::Even } else { At::Odd };
+    let skipped = most(from as usize, AREA);
+    let start = AREA * ((area / 2 % 2) as usize) + skipped;
+    Place {
+        at,
+        start,
+        end: start + most(n, AREA - skipped),
+    }
+}
+
+fn no_part(at: At) -> Place
+    ensures { λ r. ⌜ (r .start ≤ r .end) × (r .end ≤ 8192) ⌝ }
+{
+    Place {
+        at,
+        start: 0,
+        end: 0,
+    }
+}
+
+fn place_of(command: Command, lent: Lent) -> Place
+    ensures { λ r. ⌜ (r .start ≤ r .end) × (r .end ≤ 8192) ⌝ }
+{
+    let letter = command.letter;
+    let head = command.head;
+    match letter {
+        b'l' => within(0, 0, lent.low),
+        b'h' => within(1, 0, lent.high),
+        b'f' => within(octet(head, 0), number(head, 1), AREA),
+        b'x' => within(octet(head, 0), number(head, 1), number(head, 3) as usize),
+        b'n' => no_part(At::Sender),
+        b'r' => no_part(At::Receiver),
+        _ => no_part(At::Elsewhere),
     }
 }
 
 pub(crate) fn run(
     bench: Bench,
     command: Command,
-    octets: &[u8],
-    low: &mut [u8],
-    high: &mut [u8],
-    first: &mut [u8],
-    second: &mut [u8],
-    page: &mut [u8],
+    octets: &[u8; 65536],
+    even: &mut [u8; 8192],
+    odd: &mut [u8; 8192],
+    page: &mut [u8; 65536],
 ) -> Bench {
+    let n = command.octets as usize;
+    let all: &[u8] = octets;
+    let given = &all[0..n];
+    let place = place_of(command, bench.lent);
+    let at = place.at;
+    match at {
+        At::Even => in_area(bench, command, place, given, even, page),
+        At::Odd => in_area(bench, command, place, given, odd, page),
+        At::Sender => send(bench, command, even, odd, page),
+        At::Receiver => receive(bench, given, even, odd, page),
+        At::Elsewhere => apart(bench, command, page),
+    }
+}
+
+// The commands that use no area.
+fn apart(bench: Bench, command: Command, page: &mut [u8; 65536]) -> Bench {
     let letter = command.letter;
     let head = command.head;
-    match letter {
-        b'l' | b'h' | b'n' => {
-            let after = send(
-                sender_of(bench),
-                letter,
-                head,
-                bench.lent,
-                octets,
-                low,
-                high,
-                page,
-            );
-            sent(bench, after)
-        }
-        b'r' => {
-            let after = receive(receiver_of(bench), bench.lent, octets, first, second, page);
-            received(bench, after)
-        }
-        b'f' => {
-            fill(head, octets, low, high, first, second);
-            bench
-        }
-        b'x' => {
-            let filled = show(head, low, high, first, second, page, bench.filled);
-            filled_to(bench, filled)
-        }
-        b'd' => show_states(bench, page),
-        _ => set(bench, letter, head),
-    }
-}
-
-fn show_states(bench: Bench, page: &mut [u8]) -> Bench {
-    let sender = bench.sender;
-    let receiver = bench.receiver;
-    filled_to(bench, answers::states(sender, receiver, page, bench.filled))
-}
-
-fn sender_of(bench: Bench) -> Sending {
-    let state = bench.sender;
-    Sending {
-        state,
-        filled: bench.filled,
-    }
-}
-
-fn receiver_of(bench: Bench) -> Receiving {
-    let state = bench.receiver;
-    Receiving {
-        state,
-        filled: bench.filled,
-    }
-}
-
-fn sent(bench: Bench, after: Sending) -> Bench {
-    let mut next = bench;
-    let state = after.state;
-    next.sender = state;
-    next.filled = after.filled;
-    next
-}
-
-fn received(bench: Bench, after: Receiving) -> Bench {
-    let mut next = bench;
-    let state = after.state;
-    next.receiver = state;
-    next.filled = after.filled;
-    next
-}
-
-fn filled_to(bench: Bench, filled: usize) -> Bench {
-    let mut next = bench;
-    next.filled = filled;
-    next
-}
-
-// The commands that make no call.
-fn set(bench: Bench, letter: u8, head: [u8; 20]) -> Bench {
     let mut next = bench;
     match letter {
         b'o' => {
-            next.sender = link::sender::open(head[0]);
+            next.sender = link::sender::open(octet(head, 0));
         }
         b'O' => {
-            next.receiver = link::receiver::open(head[0]);
+            next.receiver = link::receiver::open(octet(head, 0));
         }
         b's' => {
             next.sender = states::sender(head);
@@ -153,174 +139,159 @@ fn set(bench: Bench, letter: u8, head: [u8; 20]) -> Bench {
         b't' => {
             next.receiver = states::receiver(head);
         }
+        b'a' => {
+            next.lent = lent_by(head);
+        }
+        b'd' => {
+            let sender = bench.sender;
+            let receiver = bench.receiver;
+            next.filled = answers::states(sender, receiver, page, bench.filled);
+        }
+        b'E' => {
+            next.filled = answers::print(answers::plain(letter, 0, 0, 0), page, bench.filled);
+            next.ended = true;
+        }
         _ => {
-            let lent = Lent {
-                low: number(head[0], head[1]),
-                high: number(head[2], head[3]),
-                first: number(head[4], head[5]),
-                second: number(head[6], head[7]),
-            };
-            next.lent = lent;
+            next.ended = true;
         }
     }
     next
 }
 
-// So much of an area, at most all of it.
-fn most(n: u16, area: &[u8]) -> usize
-    ensures { λ r. ⌜ r ≤ length (now (area .entry)) ⌝ }
-{
-    let all = area.len();
-    if (n as usize) < all { n as usize } else { all }
-}
-
-// The calls of the sender.
-fn send(
-    sending: Sending,
-    letter: u8,
-    head: [u8; 20],
-    lent: Lent,
-    octets: &[u8],
-    low: &mut [u8],
-    high: &mut [u8],
-    page: &mut [u8],
-) -> Sending {
-    match letter {
-        b'l' => load(sending, Lane::Low, lent.low, octets, low, page),
-        b'h' => load(sending, Lane::High, lent.high, octets, high, page),
-        _ => {
-            let k = most(lent.low, low);
-            let m = most(lent.high, high);
-            next(
-                sending,
-                number(head[0], head[1]),
-                &low[0..k],
-                &high[0..m],
-                page,
-            )
-        }
+fn lent_by(head: [u8; 20]) -> Lent {
+    Lent {
+        low: number(head, 0) as usize,
+        high: number(head, 2) as usize,
+        first: number(head, 4) as usize,
+        second: number(head, 6) as usize,
     }
 }
 
-fn load(
-    sending: Sending,
-    lane: Lane,
-    lent: u16,
-    packet: &[u8],
-    area: &mut [u8],
-    page: &mut [u8],
-) -> Sending {
-    let k = most(lent, area);
-    let before = sending.state;
-    let loaded = before.load(lane, packet, &mut area[0..k]);
+fn most(n: usize, all: usize) -> usize
+    ensures { λ r. ⌜ (r ≤ n) × (r ≤ all) ⌝ }
+{
+    if n < all { n } else { all }
+}
+
+// The commands that use one area.
+fn in_area(
+    bench: Bench,
+    command: Command,
+    place: Place,
+    octets: &[u8],
+    areas: &mut [u8],
+    page: &mut [u8; 65536],
+) -> Bench
+    requires { ⌜ (place .start ≤ place .end) × (place .end ≤ length (now areas)) ⌝ }
+{
+    let letter = command.letter;
+    let start = place.start;
+    let end = place.end;
+    let area = &mut areas[start..end];
+    match letter {
+        b'f' => {
+            fill(octets, area);
+            bench
+        }
+        b'x' => show(bench, area, page),
+        _ => load(bench, lane(letter), octets, area, page),
+    }
+}
+
+fn lane(letter: u8) -> Lane {
+    if letter == b'l' {
+        return Lane::Low;
+    }
+    Lane::High
+}
+
+fn show(bench: Bench, area: &[u8], page: &mut [u8; 65536]) -> Bench {
+    let mut next = bench;
+    next.filled = answers::print_with(answers::plain(b'X', 0, 0, 0), area, page, bench.filled);
+    next
+}
+
+fn fill(octets: &[u8], area: &mut [u8]) {
+    let n = most(octets.len(), area.len());
+    lines::text(&octets[0..n], area, 0);
+}
+
+fn load(bench: Bench, lane: Lane, packet: &[u8], area: &mut [u8], page: &mut [u8; 65536]) -> Bench {
+    let mut next = bench;
+    let before = bench.sender;
+    let loaded = before.load(lane, packet, area);
     let state = loaded.state;
     let answer = loaded.answer;
-    let filled = answers::load(answer, page, sending.filled);
-    Sending { state, filled }
+    next.sender = state;
+    next.filled = answers::print(answers::loaded(answer), page, bench.filled);
+    next
 }
 
-fn next(sending: Sending, calls: u16, low: &[u8], high: &[u8], page: &mut [u8]) -> Sending {
-    let mut state = sending.state;
-    let mut filled = sending.filled;
+// The sender's calls, with as much of each area as is lent.
+fn send(
+    bench: Bench,
+    command: Command,
+    even: &[u8; 8192],
+    odd: &[u8; 8192],
+    page: &mut [u8; 65536],
+) -> Bench {
+    let lent = bench.lent;
+    let k = most(lent.low, AREA);
+    let m = most(lent.high, AREA);
+    let low: &[u8] = even;
+    let high: &[u8] = odd;
+    let head = command.head;
+    send_all(bench, number(head, 0), &low[0..k], &high[0..m], page)
+}
+
+fn send_all(bench: Bench, calls: u16, low: &[u8], high: &[u8], page: &mut [u8; 65536]) -> Bench {
+    let mut next = bench;
     let mut left = calls;
     while left > 0 {
-        let sent = state.next_octet(low, high);
-        state = sent.state;
+        let before = next.sender;
+        let sent = before.next_octet(low, high);
+        let state = sent.state;
         let answer = sent.answer;
-        filled = answers::next(answer, page, filled);
+        next.sender = state;
+        next.filled = answers::print(answers::sent(answer), page, next.filled);
         left -= 1;
     }
-    Sending { state, filled }
+    next
 }
 
-// The receiver's calls, with as much of each area as is lent.
+// The receiver's calls, likewise.
 fn receive(
-    receiving: Receiving,
-    lent: Lent,
+    bench: Bench,
     octets: &[u8],
-    first: &mut [u8],
-    second: &mut [u8],
-    page: &mut [u8],
-) -> Receiving {
-    let k = most(lent.first, first);
-    let m = most(lent.second, second);
-    receive_all(receiving, octets, &mut first[0..k], &mut second[0..m], page)
+    even: &mut [u8],
+    odd: &mut [u8],
+    page: &mut [u8; 65536],
+) -> Bench
+    requires { ⌜ (8192 ≤ length (now even)) × (8192 ≤ length (now odd)) ⌝ }
+{
+    let lent = bench.lent;
+    let k = AREA + most(lent.first, AREA);
+    let m = AREA + most(lent.second, AREA);
+    receive_all(bench, octets, &mut even[AREA..k], &mut odd[AREA..m], page)
 }
 
 fn receive_all(
-    receiving: Receiving,
+    bench: Bench,
     octets: &[u8],
     first: &mut [u8],
     second: &mut [u8],
-    page: &mut [u8],
-) -> Receiving {
-    let mut state = receiving.state;
-    let mut filled = receiving.filled;
+    page: &mut [u8; 65536],
+) -> Bench {
+    let mut next = bench;
     let mut i = 0;
     while i < octets.len() {
-        let received = state.receive(octets[i], first, second);
-        state = received.state;
+        let before = next.receiver;
+        let received = before.receive(octets[i], first, second);
+        let state = received.state;
         let report = received.report;
-        filled = answers::report(report, first, second, page, filled);
+        next.receiver = state;
+        next.filled = answers::report(report, first, second, page, next.filled);
         i += 1;
     }
-    Receiving { state, filled }
-}
-
-// The octets are put into an area from a place on, as far as it goes.
-fn fill(
-    head: [u8; 20],
-    octets: &[u8],
-    low: &mut [u8],
-    high: &mut [u8],
-    first: &mut [u8],
-    second: &mut [u8],
-) {
-    match head[0] % 4 {
-        0 => put(head, octets, low),
-        1 => put(head, octets, high),
-        2 => put(head, octets, first),
-        _ => put(head, octets, second),
-    }
-}
-
-fn put(head: [u8; 20], octets: &[u8], area: &mut [u8]) {
-    let start = most(number(head[1], head[2]), area);
-    copy(octets, &mut area[start..]);
-}
-
-fn copy(octets: &[u8], area: &mut [u8]) {
-    let mut i = 0;
-    while i < octets.len() {
-        if area.len() <= i {
-            return;
-        }
-        area[i] = octets[i];
-        i += 1;
-    }
-}
-
-// So many octets of an area from a place on, as far as it goes.
-fn show(
-    head: [u8; 20],
-    low: &[u8],
-    high: &[u8],
-    first: &[u8],
-    second: &[u8],
-    page: &mut [u8],
-    filled: usize,
-) -> usize {
-    match head[0] % 4 {
-        0 => show_part(head, low, page, filled),
-        1 => show_part(head, high, page, filled),
-        2 => show_part(head, first, page, filled),
-        _ => show_part(head, second, page, filled),
-    }
-}
-
-fn show_part(head: [u8; 20], area: &[u8], page: &mut [u8], filled: usize) -> usize {
-    let start = most(number(head[1], head[2]), area);
-    let shown = &area[start..];
-    let n = most(number(head[3], head[4]), shown);
-    answers::area(&shown[0..n], page, filled)
+    next
 }

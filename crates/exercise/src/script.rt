@@ -3,24 +3,25 @@ ghost use Prim.Native.Nat.{_≤_};
 ghost use lib.ListN.{length};
 use libc::STDIN_FILENO;
 
-pub(crate) enum Found {
-    Whole,
-    // no such command, or its operands are cut short
-    Amiss,
-    End,
-}
+// Answered where a command would stand: the script is at its end; no such command, or one that is cut short. Neither is a command's letter.
+const END: u8 = 0;
+
+const AMISS: u8 = b'E';
 
 // A command: its letter, the operands of fixed length, and how many octets follow them.
 pub(crate) struct Command {
-    pub(crate) found: Found,
     pub(crate) letter: u8,
     pub(crate) head: [u8; 20],
-    pub(crate) octets: usize,
+    pub(crate) octets: u16,
+}
+
+pub(crate) fn octet(head: [u8; 20], at: usize) -> u8 {
+    head[at % 20]
 }
 
 // A number is two octets, the low one first.
-pub(crate) fn number(low: u8, high: u8) -> u16 {
-    low as u16 + 256 * (high as u16)
+pub(crate) fn number(head: [u8; 20], at: usize) -> u16 {
+    octet(head, at) as u16 + 256 * (octet(head, at % 20 + 1) as u16)
 }
 
 // How many octets the operands of fixed length have; 21: there is no such command.
@@ -37,64 +38,52 @@ fn fixed(letter: u8) -> usize {
 }
 
 // How many octets follow.
-fn following(letter: u8, head: [u8; 20]) -> usize
-    ensures { λ r. ⌜ r ≤ 65535 ⌝ }
-{
+fn following(letter: u8, head: [u8; 20]) -> u16 {
     match letter {
-        b'l' | b'h' | b'r' => number(head[0], head[1]) as usize,
-        b'f' => number(head[3], head[4]) as usize,
+        b'l' | b'h' | b'r' => number(head, 0),
+        b'f' => number(head, 3),
         _ => 0,
     }
 }
 
-fn no_command(found: Found) -> Command
-    ensures { λ r. ⌜ r .octets ≤ 0 ⌝ }
-{
+fn no_command(letter: u8) -> Command {
     Command {
-        found,
-        letter: 0,
+        letter,
         head: [0; 20],
         octets: 0,
     }
 }
 
 // Reads a command; the octets that follow its operands are put at the start of `octets`.
-pub(crate) fn read(octets: &mut [u8]) -> Command
-    ensures { λ r. ⌜ r .octets ≤ length (now (octets .exit)) ⌝ }
-{
+pub(crate) fn read(octets: &mut [u8; 65536]) -> Command {
     let mut letter = [0u8; 1];
     let got = libc::read(STDIN_FILENO, &mut letter);
     if got < 0 {
         os::fail(b"exercise: standard input cannot be read further");
     }
     if got <= 0 {
-        return no_command(Found::End);
+        return no_command(END);
     }
     operands(letter[0], octets)
 }
 
 fn operands(letter: u8, octets: &mut [u8]) -> Command
-    ensures { λ r. ⌜ r .octets ≤ length (now (octets .exit)) ⌝ }
+    requires { ⌜ 65535 ≤ length (now octets) ⌝ }
 {
     let n = fixed(letter);
     let mut head = [0u8; 20];
     if 20 < n {
-        return no_command(Found::Amiss);
+        return no_command(AMISS);
     }
-    let got = io::read_full(STDIN_FILENO, &mut head[0..n]);
-    if got < n {
-        return no_command(Found::Amiss);
+    if io::read_full(STDIN_FILENO, &mut head[0..n]) < n {
+        return no_command(AMISS);
     }
     let follow = following(letter, head);
-    if octets.len() < follow {
-        return no_command(Found::Amiss);
-    }
-    let came = io::read_full(STDIN_FILENO, &mut octets[0..follow]);
-    if came < follow {
-        return no_command(Found::Amiss);
+    let m = follow as usize;
+    if io::read_full(STDIN_FILENO, &mut octets[0..m]) < m {
+        return no_command(AMISS);
     }
     Command {
-        found: Found::Whole,
         letter,
         head,
         octets: follow,

@@ -1,5 +1,8 @@
 // States handed in and shown as numbers.
+use crate::answers;
+use crate::answers::Line;
 use crate::script::number;
+use crate::script::octet;
 use link::receiver::Fragment;
 use link::receiver::LastBlock;
 use link::receiver::Receiver;
@@ -9,14 +12,14 @@ use link::sender::Queue;
 use link::sender::Sender;
 
 // A mark is the number's remainder by 2.
-fn mark(low: u8) -> bool {
-    low % 2 == 1
+fn mark(n: [u8; 20], at: usize) -> bool {
+    octet(n, at) % 2 == 1
 }
 
-fn queue(a: u8, b: u8, c: u8, d: u8) -> Queue {
+fn queue(n: [u8; 20], at: usize) -> Queue {
     Queue {
-        length: number(a, b),
-        position: number(c, d),
+        length: number(n, at),
+        position: number(n, at % 20 + 2),
     }
 }
 
@@ -41,33 +44,36 @@ fn on_number(on: OnLine) -> u64 {
 // The ten numbers of a sender, in the order of docs/EXERCISE.md.
 pub(crate) fn sender(n: [u8; 20]) -> Sender {
     Sender {
-        low: queue(n[2], n[3], n[4], n[5]),
-        high: queue(n[6], n[7], n[8], n[9]),
-        left: n[10],
-        zeros: n[12],
-        on: on_line(number(n[14], n[15])),
-        suspended: mark(n[16]),
-        cut: mark(n[18]),
-        settings: n[0],
+        low: queue(n, 2),
+        high: queue(n, 6),
+        left: octet(n, 10),
+        zeros: octet(n, 12),
+        on: on_line(number(n, 14)),
+        suspended: mark(n, 16),
+        cut: mark(n, 18),
+        settings: octet(n, 0),
     }
 }
 
-pub(crate) fn sender_numbers(s: Sender) -> [u64; 10] {
+pub(crate) fn sender_line(s: Sender) -> Line {
     let low = s.low;
     let high = s.high;
     let on = s.on;
-    [
-        s.settings as u64,
-        low.length as u64,
-        low.position as u64,
-        high.length as u64,
-        high.position as u64,
-        s.left as u64,
-        s.zeros as u64,
-        on_number(on),
-        s.suspended as u64,
-        s.cut as u64,
-    ]
+    answers::ten(
+        b'S',
+        [
+            s.settings as u64,
+            low.length as u64,
+            low.position as u64,
+            high.length as u64,
+            high.position as u64,
+            s.left as u64,
+            s.zeros as u64,
+            on_number(on),
+            s.suspended as u64,
+            s.cut as u64,
+        ],
+    )
 }
 
 fn fragment(n: u16) -> Fragment {
@@ -103,32 +109,35 @@ fn last_number(last: LastBlock) -> u64 {
 // The ten numbers of a receiver.
 pub(crate) fn receiver(n: [u8; 20]) -> Receiver {
     Receiver {
-        settings: n[0],
-        second: mark(n[2]),
-        decoded: number(n[4], n[5]),
-        held: fragment(number(n[6], n[7])),
-        left: n[8],
-        zeros: n[10],
-        last: last_block(number(n[12], n[13])),
-        framed: mark(n[14]),
-        resumed: mark(n[16]),
-        refusal: n[18],
+        settings: octet(n, 0),
+        second: mark(n, 2),
+        decoded: number(n, 4),
+        held: fragment(number(n, 6)),
+        left: octet(n, 8),
+        zeros: octet(n, 10),
+        last: last_block(number(n, 12)),
+        framed: mark(n, 14),
+        resumed: mark(n, 16),
+        refusal: octet(n, 18),
     }
 }
 
-pub(crate) fn receiver_numbers(r: Receiver) -> [u64; 10] {
+pub(crate) fn receiver_line(r: Receiver) -> Line {
     let held = r.held;
     let last = r.last;
-    [
-        r.settings as u64,
-        r.second as u64,
-        r.decoded as u64,
-        held_number(held),
-        r.left as u64,
-        r.zeros as u64,
-        last_number(last),
-        r.framed as u64,
-        r.resumed as u64,
-        r.refusal as u64,
-    ]
+    answers::ten(
+        b'T',
+        [
+            r.settings as u64,
+            r.second as u64,
+            r.decoded as u64,
+            held_number(held),
+            r.left as u64,
+            r.zeros as u64,
+            last_number(last),
+            r.framed as u64,
+            r.resumed as u64,
+            r.refusal as u64,
+        ],
+    )
 }

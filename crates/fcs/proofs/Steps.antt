@@ -46,6 +46,10 @@ module _ (k : Check) where
   steps-add m zero a = rw add-zero
   steps-add m (suc n) a = rw add-suc (steps-add m n (bitStep k a))
 
+  -- apart, and m steps more
+  pub apart-on : (m n a b : ℕ) → bitSteps k (m + n) (a ⊕ b * 2 ^ n) ≡ bitSteps k (m + n) a ⊕ bitSteps k m b
+  apart-on m n a b = rw (steps-add m n (a ⊕ b * 2 ^ n), steps-add m n a, apart, linear)
+
 -- ---- the steps keep to the width
 
 pub bits-below : (k : Check) → Sound k → (n a : ℕ) → a < 2 ^ width k → bitSteps k n a < 2 ^ width k

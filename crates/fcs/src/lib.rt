@@ -1,10 +1,11 @@
 // The check sequence, FCS (document 01, "Check sequence"; RFC 1662, 3.1 and C.2), of 16 bits.
 ghost use mathlib.Core.Path.{_≡_};
-ghost use Rattle.fcs.specs.CheckSequence.{check16, IsTable, feed, register, fcs, good};
+ghost use Rattle.fcs.specs.CheckSequence.{check16, IsTable, IsStepTable, feed, register, fcs, good};
 
 mod tables;
 
 use tables::TABLE16;
+use tables::TABLE16_TWICE;
 
 // The table with its rule. A constant array is laid out anew by each function that indexes it, so a loop has it in a local.
 fn table16() -> [u16; 256]
@@ -13,9 +14,15 @@ fn table16() -> [u16; 256]
     TABLE16
 }
 
-// A register, at start, fed the octets of a slice: RFC 1662's function, under its name, for C too.
-#[no_mangle]
-pub extern "C" fn pppfcs16(start: u16, octets: &[u8]) -> u16
+// The table of sixteen bit steps, with its rule.
+fn twice16() -> [u16; 256]
+    ensures { λ t. ⌜ IsStepTable check16 16 t ⌝ }
+{
+    TABLE16_TWICE
+}
+
+// A register, at start, fed the octets of a slice, one at a step.
+fn by_octets(start: u16, octets: &[u8]) -> u16
     ensures { λ r. ⌜ r ≡ feed check16 start (now (octets .entry)) ⌝ }
 {
     let table = table16();
@@ -26,6 +33,39 @@ pub extern "C" fn pppfcs16(start: u16, octets: &[u8]) -> u16
         i += 1;
     }
     r
+}
+
+// The same, two octets at a step: each step waits for the one before it, and this way there are half as many.
+fn by_pairs(start: u16, octets: &[u8]) -> u16
+    ensures { λ r. ⌜ r ≡ feed check16 start (now (octets .entry)) ⌝ }
+{
+    let table = table16();
+    let twice = twice16();
+    let mut r = start;
+    let mut i = 0;
+    while 1 < octets.len() - i {
+        let low = octets[i] as u16;
+        let high = octets[i + 1] as u16;
+        let both = r ^ (low + high * 256);
+        r = twice[(both % 256) as usize] ^ table[(both / 256 % 256) as usize];
+        i += 2;
+    }
+    if i == octets.len() {
+        return r;
+    }
+    (r >> 8) ^ table[((r ^ octets[i] as u16) % 256) as usize]
+}
+
+// A register, at start, fed the octets of a slice: RFC 1662's function, under its name, for C too.
+// Below 20 octets the second table costs more to lay out than it saves.
+#[no_mangle]
+pub extern "C" fn pppfcs16(start: u16, octets: &[u8]) -> u16
+    ensures { λ r. ⌜ r ≡ feed check16 start (now (octets .entry)) ⌝ }
+{
+    if octets.len() < 20 {
+        return by_octets(start, octets);
+    }
+    by_pairs(start, octets)
 }
 
 // The register over a slice, from its start.

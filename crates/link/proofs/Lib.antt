@@ -6,6 +6,7 @@ pub mod Write
 pub mod ReceiverBounds
 pub mod Within
 pub mod ReceiverCases
+pub mod ReadOn
 pub mod Follow
 pub mod Way
 pub mod SenderBounds
@@ -15,5 +16,6 @@ pub mod Early
 pub mod Demands
 pub mod Delivery
 pub mod InBounds
+pub mod WriteOn
 pub mod AreasAside
 pub mod Marked

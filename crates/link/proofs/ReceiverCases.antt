@@ -37,6 +37,7 @@ use Rattle.link.specs.Receiver.{
   isD0,
   ends,
   hold,
+  brokenOff,
   whole,
   close,
   atFlag,
@@ -120,13 +121,9 @@ module _ (g : Agreed) (r : Receiver) (area : List ℕ) where
     no-block l = simp (eq-eqb _ _ n, l)
 
     module _ (l : isNone (r .last) ≡ false) where
-      pub broken-off : 0 < r .left → g .pre ≡ true → close g r area ≡ hold r
+      pub broken-off : 0 < r .left → close g r area ≡ brokenOff g r
       unfolding close
-      broken-off b p = simp (eq-eqb _ _ n, l, lt-ltb _ _ b, p)
-
-      pub cut-short : 0 < r .left → g .pre ≡ false → close g r area ≡ ends (refused 11) r
-      unfolding close
-      cut-short b p = simp (eq-eqb _ _ n, l, lt-ltb _ _ b, p)
+      broken-off b = simp (eq-eqb _ _ n, l, lt-ltb _ _ b)
 
       pub full-block : r .left ≤ 0 → isD0 (r .last) ≡ true → close g r area ≡ ends (refused 12) r
       unfolding close

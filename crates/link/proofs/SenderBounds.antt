@@ -82,7 +82,7 @@ in-bounds g s h =
     waits false q h = refl
 
 -- and the test tells the facts
-ok-queue : (g : Agreed) (q : Queue) → queueOk g q ≡ true → QueueOk g q
+pub ok-queue : (g : Agreed) (q : Queue) → queueOk g q ≡ true → QueueOk g q
 ok-queue g q e =
     let inside = leb (leastFrame g) (q .length) && leb (q .length) (largestFrame g) in
     let sized = eqb (q .length) 0 || inside in

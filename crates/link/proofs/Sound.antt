@@ -135,32 +135,33 @@ module _ (g : Agreed) (early : Bool) (ql qh : Queue) (n z t : ℕ) (al ah : List
       }
 
   -- of the low lane
+  low-inside : Sound g (station (sender ql qh n z (sending low) false false t) al ah bl bh)
+      → (st : Step) → Way g low (sender ql qh n z (sending low) false false t) (dataOf ql al) st → bounds.Bounds g (st .state)
+  low-inside s st w = bounds.low-keeps g ql qh n z t al (stock-fits g ql al bl (s .stock·low)) (s .inside) st w .bounds
+
   pub sound-low : Sound g (station (sender ql qh n z (sending low) false false t) al ah bl bh)
       → (st : Step) → Way g low (sender ql qh n z (sending low) false false t) (dataOf ql al) st
       → Sound g (afterStep early (station (sender ql qh n z (sending low) false false t) al ah bl bh) st)
   sound-low s st (ends over) =
-      let k = bounds.low-keeps g ql qh n z t al (stock-fits g ql al bl (s .stock·low)) (s .inside) st (ends over) in
       record {
         agrees = s .agrees;
-        inside = k .bounds;
+        inside = low-inside s st (ends over);
         stock·low = refl;
         stock·high = s .stock·high;
         line = (s .line .1, record { start = refl; young = tt });
       }
   sound-low s st (cuts short e pre urgent f) =
-      let k = bounds.low-keeps g ql qh n z t al (stock-fits g ql al bl (s .stock·low)) (s .inside) st (cuts short e pre urgent f) in
       record {
         agrees = s .agrees;
-        inside = k .bounds;
+        inside = low-inside s st (cuts short e pre urgent f);
         stock·low = stock-marked g ql ql al early bl refl (s .stock·low);
         stock·high = s .stock·high;
         line = (s .line .1, record { short = short; pre = pre });
       }
   sound-low s st (warns short e pre urgent f) =
-      let k = bounds.low-keeps g ql qh n z t al (stock-fits g ql al bl (s .stock·low)) (s .inside) st (warns short e pre urgent f) in
       record {
         agrees = s .agrees;
-        inside = k .bounds;
+        inside = low-inside s st (warns short e pre urgent f);
         stock·low = stock-marked g ql ql al early bl refl (s .stock·low);
         stock·high = s .stock·high;
         line = (record { short = short; pre = pre }, s .line .1);
@@ -284,31 +285,29 @@ high-is-off g s b e = bounds.high-off (s .low) (s .high) (s .left) (s .zeros) (s
 pub sound-load : (g : Agreed) (l : Lane) (p : List ℕ) (w : Station) → Sound g w → Sound g (afterLoad l p w)
 unfolding put
 sound-load g low p w s =
-    let e = w .end in
-    let r = e .state in
+    let r = w .end .state in
     by-load g low p w (Sound g) (s .agrees) s
     (λ k.
     record {
       agrees = s .agrees;
-      inside = bounds.put-bounds g p (k .big) (k .small) low r (e .low) (k .free) (s .inside) .bounds;
-      stock·low = loaded-stock g p (e .low) (k .big);
+      inside = bounds.put-bounds g p (k .big) (k .small) low r (w .end .low) (k .free) (s .inside) .bounds;
+      stock·low = loaded-stock g p (w .end .low) (k .big);
       stock·high = s .stock·high;
       line =
-          line-low g p (r .low) (r .high) (r .left) (r .zeros) (r .settings) (e .low) (e .high) (w .lanes .low) (w .lanes .high)
+          line-low g p (r .low) (r .high) (r .left) (r .zeros) (r .settings) (w .end .low) (w .end .high) (w .lanes .low) (w .lanes .high)
           (r .on) (r .suspended) (r .cut) (low-is-off g r (s .inside) (k .free)) (s .line);
     })
 sound-load g high p w s =
-    let e = w .end in
-    let r = e .state in
+    let r = w .end .state in
     by-load g high p w (Sound g) (s .agrees) s
     (λ k.
     record {
       agrees = s .agrees;
-      inside = bounds.put-bounds g p (k .big) (k .small) high r (e .high) (k .free) (s .inside) .bounds;
+      inside = bounds.put-bounds g p (k .big) (k .small) high r (w .end .high) (k .free) (s .inside) .bounds;
       stock·low = s .stock·low;
-      stock·high = loaded-stock g p (e .high) (k .big);
+      stock·high = loaded-stock g p (w .end .high) (k .big);
       line =
-          line-high g p (r .low) (r .high) (r .left) (r .zeros) (r .settings) (e .low) (e .high) (w .lanes .low) (w .lanes .high)
+          line-high g p (r .low) (r .high) (r .left) (r .zeros) (r .settings) (w .end .low) (w .end .high) (w .lanes .low) (w .lanes .high)
           (r .on) (r .suspended) (r .cut) (high-is-off g r (s .inside) (k .free)) (s .line);
     })
 

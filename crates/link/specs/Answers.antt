@@ -1,6 +1,6 @@
 -- What the calls answer, in document 01's numbers and values, for each case of the code's enums.
 -- Assumes nothing.
-use mathlib.Core.Bool.{Bool}
+use mathlib.Core.Bool.{Bool, true, false}
 use Prim.Native.Nat.{ℕ}
 use Rattle.link.specs.declared.sender.LoadAnswer.{LoadAnswer}
 use Rattle.link.specs.declared.sender.LoadAnswer.the-variants.{Done, Refused as LoadRefused}
@@ -39,3 +39,13 @@ report Quiet = quiet
 report (Packet second length) = packet second length
 report (Held count replaced) = held count replaced
 report (Refused n) = refused n
+
+-- whether a receiver's call reports nothing
+abbrev pub isQuiet : Answer → Bool
+isQuiet done = false
+isQuiet (octet x) = false
+isQuiet idle = false
+isQuiet quiet = true
+isQuiet (packet second n) = false
+isQuiet (held n replaced) = false
+isQuiet (refused n) = false

@@ -1,13 +1,13 @@
 -- The marked cases (document 01, "Marked frames and false friends"): one table, and what each case says of the steps.
 -- Assumes nothing.
 use mathlib.Core.Path.{_≡_}
-use mathlib.Core.Bool.{Bool, true, false}
+use mathlib.Core.Bool.{Bool, true, false, not}
 use mathlib.Core.List.{List, [], _∷_, _++_, map, List·Memᴰ}
 use mathlib.Core.Option.{none, some}
 use Prim.Native.Nat.{ℕ, _+_}
 use lib.ListN.{length, replicate}
 use Rattle.cobs.specs.CodeBlocks.{flag, choice}
-use Rattle.link.specs.Answers.{Answer, done, octet, idle, quiet, packet, held, refused}
+use Rattle.link.specs.Answers.{Answer, octet, packet, held, refused, isQuiet}
 use Rattle.link.specs.Sender.{Lane, low, high}
 use Rattle.link.specs.Receiver.{receive}
 use Rattle.link.specs.Runs.{Call, loading, nextOctet, opened, run, afterNext, written, octets, receives, received, packetIn, isOld, collect}
@@ -31,13 +31,7 @@ abbrev pub first·area : List ℕ
 first·area = replicate 2051 0
 
 abbrev pub loud : Answer → Bool
-loud done = true
-loud (octet x) = true
-loud idle = true
-loud quiet = false
-loud (packet second n) = true
-loud (held n replaced) = true
-loud (refused n) = true
+loud a = not (isQuiet a)
 
 abbrev pub unless : {A : Type 0} → Bool → A → List A → List A
 unless true x xs = x ∷ xs

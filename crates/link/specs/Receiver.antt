@@ -244,6 +244,10 @@ hold r =
       state = outside (r .settings) (not (r .second)) (octets (r .decoded));
     }
 
+-- inside a block: with PRE on the frame is held, else refused 11
+abbrev pub brokenOff : Agreed → Receiver → Ended
+brokenOff g r = if g .pre then hold r else ends (refused 11) r
+
 -- the phantom goes, and n octets are left: under 4 give 13, a register not F0B8 14, else they are a packet and its FCS
 unfoldable pub whole : Agreed → Receiver → List ℕ → ℕ → Ended
 whole g r area n =
@@ -256,7 +260,7 @@ unfoldable pub close : Agreed → Receiver → List ℕ → Ended
 close g r area =
     if not (eqb (r .refusal) 0) then ends (refused (r .refusal)) r
     else if isNone (r .last) then ends (refused 9) r
-    else if ltb 0 (r .left) then (if g .pre then hold r else ends (refused 11) r)
+    else if ltb 0 (r .left) then brokenOff g r
     else if isD0 (r .last) then ends (refused 12) r
     else whole g r area (r .decoded - 1)
 

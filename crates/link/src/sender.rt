@@ -8,7 +8,7 @@ ghost use Rattle.cobs.specs.CodeBlocks.{choice};
 ghost use Rattle.link.specs.Agreed.{agreed};
 ghost use Rattle.link.specs.Answers.{loadAnswer, nextAnswer};
 ghost use Rattle.link.specs.Sender.{opened, queue, dataOf, inLane, move, block, onLine, queueOk, blockOk, lineOk, inBounds, put, load, cutOff, close, breakOff, sendData, sendCode, isLow, onward, takeLine, steps, next, seen};
-ghost use Rattle.link.specs.SenderParts.{Ready};
+ghost use Rattle.link.specs.SenderParts.{Ready, DataDue, SendsOn};
 
 // A lane is document 01's word for one of the sender's two places for a packet.
 pub enum Lane {
@@ -96,6 +96,26 @@ fn copy(packet: &[u8], area: &mut [u8])
     }
 }
 
+// An empty lane or a frame of an allowed length, and a position no further than behind D. The limits are the same for all settings.
+fn queue_in_bounds(frame: u16, position: u16) -> bool
+    ensures { λ r. ⌜ ((settings : ℕ) → r ≡ queueOk (agreed settings) (record { length = frame; position = position })) ⌝ }
+{
+    let n = frame as usize;
+    ((n == 0) | (crate::LEAST_FRAME <= n) & (n <= crate::LARGEST_FRAME))
+        & (position as usize <= n + 1)
+}
+
+// The octet of D at a position, for a frame of so many octets; behind the frame stands the phantom.
+fn octet_at(frame: u16, position: u16, area: &[u8]) -> u8
+    requires { ⌜ frame ≤ length (now area) ⌝ }
+    ensures { λ r. ⌜ r ≡ getD (dataOf (record { length = frame; position = position }) (now (area .entry))) position 0 ⌝ }
+{
+    if position < frame {
+        return area[position as usize];
+    }
+    0
+}
+
 impl Lane {
     fn is_low(self) -> bool
         ensures { λ r. ⌜ r ≡ isLow self ⌝ }
@@ -108,28 +128,6 @@ impl Lane {
 }
 
 impl Queue {
-    // An empty lane or a frame of an allowed length, and a position no further than behind D. The limits are the same for all settings.
-    fn in_bounds(self) -> bool
-        ensures { λ r. ⌜ ((settings : ℕ) → r ≡ queueOk (agreed settings) self) ⌝ }
-    {
-        let length = self.length as usize;
-        let position = self.position as usize;
-        ((length == 0) | (crate::LEAST_FRAME <= length) & (length <= crate::LARGEST_FRAME))
-            & (position <= length + 1)
-    }
-
-    // The octet of D at the position; behind the frame stands the phantom.
-    fn octet(self, area: &[u8]) -> u8
-        requires { ⌜ self .length ≤ length (now area) ⌝ }
-        ensures { λ r. ⌜ r ≡ getD (dataOf self (now (area .entry))) (self .position) 0 ⌝ }
-    {
-        let position = self.position as usize;
-        if position < self.length as usize {
-            return area[position];
-        }
-        0
-    }
-
     // The code of the next block, and what it covers.
     fn choose(self, area: &[u8], zxe: bool) -> cobs::Choice
         requires { ⌜ (self .position ≤ self .length) × (self .length ≤ length (now area)) ⌝ }
@@ -166,14 +164,36 @@ impl Sender {
         changed
     }
 
-    // n more octets of a lane's D are covered.
-    fn move_on(self, n: u8, lane: Lane) -> Sender
-        requires { ⌜ queue lane self .position + n < 65536 ⌝ }
-        ensures { λ r. ⌜ r ≡ move n lane self ⌝ }
+    // The octet of D at a lane's position.
+    fn octet(self, lane: Lane, area: &[u8]) -> u8
+        requires { ⌜ queue lane self .length ≤ length (now area) ⌝ }
+        ensures { λ r. ⌜ r ≡ getD (dataOf (queue lane self) (now (area .entry))) (queue lane self .position) 0 ⌝ }
     {
-        let mut q = self.queue(lane);
-        q.position = q.position + n as u16;
-        self.with_queue(lane, q)
+        match lane {
+            Lane::Low => octet_at(self.low.length, self.low.position, area),
+            Lane::High => octet_at(self.high.length, self.high.position, area),
+        }
+    }
+
+    // n more octets of a lane's D are covered, and so much of the block is still to come.
+    fn cover(self, n: u8, lane: Lane, left: u8, zeros: u8) -> Sender
+        requires { ⌜ queue lane self .position + n < 65536 ⌝ }
+        ensures { λ r. ⌜ r ≡ block left zeros (move n lane self) ⌝ }
+    {
+        let mut next = self;
+        next.left = left;
+        next.zeros = zeros;
+        match lane {
+            Lane::Low => {
+                let position = self.low.position + n as u16;
+                next.low.position = position;
+            }
+            Lane::High => {
+                let position = self.high.position + n as u16;
+                next.high.position = position;
+            }
+        }
+        next
     }
 
     // What is still to come of the block.
@@ -238,15 +258,13 @@ impl Sender {
     fn in_bounds(self) -> bool
         ensures { λ r. ⌜ r ≡ inBounds (agreed (self .settings)) self ⌝ }
     {
-        let low = self.low;
-        let high = self.high;
-        low.in_bounds()
-            & high.in_bounds()
+        queue_in_bounds(self.low.length, self.low.position)
+            & queue_in_bounds(self.high.length, self.high.position)
             & (self.left <= 207)
             & (self.zeros <= 2)
             & ((0 < self.left) | (self.zeros == 0))
             & self.line_in_bounds()
-            & (!self.suspended | (0 < low.length))
+            & (!self.suspended | (0 < self.low.length))
     }
 
     fn load_refused(self, n: u8) -> Loaded
@@ -361,15 +379,11 @@ impl Sender {
         ensures { λ r. ⌜ record { answer = nextAnswer (r .answer); state = r .state }
             ≡ seen (sendData lane self (dataOf (queue lane self) (now (area .entry)))) ⌝ }
     {
-        let octet = cobs::to_line(self.queue(lane).octet(area));
+        let octet = cobs::to_line(self.octet(lane, area));
         if self.left == 1 {
-            return self.move_on(1 + self.zeros, lane)
-                .with_block(0, 0)
-                .sent(octet);
+            return self.cover(1 + self.zeros, lane, 0, 0).sent(octet);
         }
-        self.move_on(1, lane)
-            .with_block(self.left - 1, self.zeros)
-            .sent(octet)
+        self.cover(1, lane, self.left - 1, self.zeros).sent(octet)
     }
 
     // Step 6: a code. A block that has no data is covered with it.
@@ -379,7 +393,7 @@ impl Sender {
     {
         let code = cobs::to_line(c.code);
         if c.octets == 0 {
-            return self.move_on(c.zeros, lane).sent(code);
+            return self.cover(c.zeros, lane, self.left, self.zeros).sent(code);
         }
         self.with_block(c.octets, c.zeros).sent(code)
     }
@@ -451,6 +465,77 @@ impl Sender {
         }
     }
 
+    // Refusal 3, then the steps.
+    fn checked(self, low: &[u8], high: &[u8]) -> Sent
+        requires { ⌜ (2050 ≤ length (now low)) × (2050 ≤ length (now high)) ⌝ }
+        ensures { λ r. ⌜ record { answer = nextAnswer (r .answer); state = r .state }
+            ≡ seen (next (record { state = self; low = now (low .entry); high = now (high .entry) })) ⌝ }
+    {
+        if !self.in_bounds() {
+            return self.next_refused(3);
+        }
+        self.steps(low, high)
+    }
+
+    // ---- the short way: most calls find a data octet due and nothing else; what is in bounds then takes few tests
+
+    // A block with data left, inside the D of a frame of so many octets.
+    fn data_due(self, frame: u16, position: u16) -> bool
+        ensures { λ r. ⌜ (r ≡ true → DataDue frame position self) ⌝ }
+    {
+        if (frame as usize) < crate::LEAST_FRAME {
+            return false;
+        }
+        if crate::LARGEST_FRAME < frame as usize {
+            return false;
+        }
+        if self.left == 0 {
+            return false;
+        }
+        if 207 < self.left {
+            return false;
+        }
+        if 2 < self.zeros {
+            return false;
+        }
+        if frame as usize + 1 < position as usize + self.left as usize + self.zeros as usize {
+            return false;
+        }
+        true
+    }
+
+    // With low on the line.
+    fn low_sends_on(self) -> bool
+        ensures { λ r. ⌜ (r ≡ true → SendsOn Lane.Low self × (self .high .length ≡ 0)) ⌝ }
+    {
+        if self.suspended | self.cut {
+            return false;
+        }
+        if self.high.length != 0 {
+            return false;
+        }
+        if 1 < self.high.position {
+            return false;
+        }
+        self.data_due(self.low.length, self.low.position)
+    }
+
+    // With high on the line.
+    fn high_sends_on(self) -> bool
+        ensures { λ r. ⌜ (r ≡ true → SendsOn Lane.High self) ⌝ }
+    {
+        if self.cut {
+            return false;
+        }
+        if self.suspended & (self.low.length == 0) {
+            return false;
+        }
+        if !queue_in_bounds(self.low.length, self.low.position) {
+            return false;
+        }
+        self.data_due(self.high.length, self.high.position)
+    }
+
     // Next octet: refusals 2 and 3, in this order.
     pub fn next_octet(self, low: &[u8], high: &[u8]) -> Sent
         ensures { λ r. ⌜ record { answer = nextAnswer (r .answer); state = r .state }
@@ -459,9 +544,25 @@ impl Sender {
         if (low.len() < crate::LARGEST_FRAME) | (high.len() < crate::LARGEST_FRAME) {
             return self.next_refused(2);
         }
-        if !self.in_bounds() {
-            return self.next_refused(3);
+        let on = self.on;
+        match on {
+            OnLine::Neither => self.checked(low, high),
+            OnLine::Sends(lane) => {
+                match lane {
+                    Lane::Low => {
+                        if self.low_sends_on() {
+                            return self.send_data(Lane::Low, low);
+                        }
+                        self.checked(low, high)
+                    }
+                    Lane::High => {
+                        if self.high_sends_on() {
+                            return self.send_data(Lane::High, high);
+                        }
+                        self.checked(low, high)
+                    }
+                }
+            }
         }
-        self.steps(low, high)
     }
 }

@@ -8,10 +8,10 @@ use native.Mathlib.Numerals.{one-add}
 use native.Mathlib.Omega.{arith}
 use Rattle.fcs.specs.Notation.{if_then_else_}
 use lib.ListN.{length, take, drop, replicate, take-append-drop, length-drop, drop-of-length-le}
-use Rattle.link.specs.Answers.{Answer, done, octet, idle, quiet, packet, held, refused}
+use Rattle.link.specs.Answers.{Answer, done, octet, idle, quiet, packet, held, refused, isQuiet}
 use Rattle.link.specs.Receiver.{Receiving, Receive, receive}
 use Rattle.link.specs.Runs.{receives, received}
-use Rattle.reader.specs.Reading.{isQuiet, Reach, further, readOn}
+use Rattle.reader.specs.Reading.{Reach, further, readOn}
 use Rattle.reader.specs.NothingLost.{answers, Reading, AsTheCalls, loud, reporting, reports, call, GoesOn, FirstThenRest, Cut, Cuts, Run, through, throughAll, AnyCutting}
 use Rattle.reader.proofs.Steps.{from-quiet, at-report}
 

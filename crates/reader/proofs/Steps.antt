@@ -9,9 +9,9 @@ use native.Mathlib.Numerals.{add-one}
 use native.Mathlib.Omega.{arith}
 use lib.ListN.{length, drop, getD, drop-of-length-le}
 use lib.Seq.{drop-cons}
-use Rattle.link.specs.Answers.{quiet}
+use Rattle.link.specs.Answers.{quiet, isQuiet}
 use Rattle.link.specs.Receiver.{Receiving, Receive, receive}
-use Rattle.reader.specs.Reading.{isQuiet, Reach, stopped, further, readOn}
+use Rattle.reader.specs.Reading.{Reach, stopped, further, readOn}
 
 pub from-quiet : (e : Receiving) (x : ℕ) (xs : List ℕ) (h : Receive) → h ≡ receive e x → isQuiet (h .report) ≡ true
     → readOn e (x ∷ xs) ≡ further 1 (readOn (h .after) xs)

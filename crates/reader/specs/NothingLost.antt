@@ -6,10 +6,10 @@ use mathlib.Core.Path.{_≡_}
 use Prim.Native.Nat.{ℕ, zero, suc, _-_, _≤_, _<_}
 use lib.ListN.{length, take, drop, replicate}
 use Rattle.fcs.specs.Notation.{if_then_else_}
-use Rattle.link.specs.Answers.{Answer, quiet}
+use Rattle.link.specs.Answers.{Answer, quiet, isQuiet}
 use Rattle.link.specs.Receiver.{Receiving, Receive}
 use Rattle.link.specs.Runs.{receives, received}
-use Rattle.reader.specs.Reading.{isQuiet, Reach, readOn}
+use Rattle.reader.specs.Reading.{Reach, readOn}
 
 -- ---- one reading
 

@@ -1,20 +1,10 @@
 -- Reading on: the octets of a stretch go to the receiver one after another, up to and with the first that is answered by anything but Quiet.
 -- Assumes nothing.
-use mathlib.Core.Bool.{Bool, true, false}
 use mathlib.Core.List.{List, [], _∷_}
 use Prim.Native.Nat.{ℕ, _+_}
 use Rattle.fcs.specs.Notation.{if_then_else_}
-use Rattle.link.specs.Answers.{Answer, done, octet, idle, quiet, packet, held, refused}
+use Rattle.link.specs.Answers.{Answer, quiet, isQuiet}
 use Rattle.link.specs.Receiver.{Receiving, Receive, receive}
-
-abbrev pub isQuiet : Answer → Bool
-isQuiet done = false
-isQuiet (octet x) = false
-isQuiet idle = false
-isQuiet quiet = true
-isQuiet (packet second n) = false
-isQuiet (held n replaced) = false
-isQuiet (refused n) = false
 
 -- the answer to the last octet used, the receiver and its areas after it, and how many octets were used
 pub record Reach : Type 0 where

@@ -1,9 +1,15 @@
 // Reading on: a receiver is given whole stretches of a line, and comes back at each report (specs/Reading.antt).
 ghost use mathlib.Core.Path.{_≡_};
-ghost use Prim.Native.Nat.{min, _≤_};
-ghost use lib.ListN.{length};
-ghost use Rattle.link.specs.Answers.{report};
-ghost use Rattle.reader.specs.Reading.{isQuiet, readOn};
+ghost use mathlib.Core.Bool.{true};
+ghost use mathlib.Core.List.{map};
+ghost use Prim.Native.Nat.{min, _+_, _≤_};
+ghost use lib.ListN.{length, drop};
+ghost use Rattle.cobs.specs.CodeBlocks.{fromLine};
+ghost use Rattle.link.specs.Agreed.{agreed};
+ghost use Rattle.link.specs.Answers.{report, isQuiet};
+ghost use Rattle.link.specs.Receiver.{inBounds, write};
+ghost use Rattle.reader.specs.Stretches.{beforeFlag, withCounts};
+ghost use Rattle.reader.specs.Reading.{further, readOn};
 use link::receiver::Receiver;
 use link::receiver::Report;
 
@@ -22,6 +28,93 @@ fn is_quiet(answer: Report) -> bool
         Report::Packet { .. } => false,
         Report::Held { .. } => false,
         Report::Refused(_) => false,
+    }
+}
+
+fn least(a: usize, b: usize) -> usize
+    ensures { λ r. ⌜ r ≡ min a b ⌝ }
+{
+    if a < b {
+        return a;
+    }
+    b
+}
+
+// How many octets stand before the first flag.
+fn before_flag(octets: &[u8]) -> usize
+    ensures { λ r. ⌜ r ≡ beforeFlag (now (octets .entry)) ⌝ }
+{
+    let mut i = 0;
+    while i < octets.len() {
+        if octets[i] == cobs::FLAG {
+            return i;
+        }
+        i += 1;
+    }
+    i
+}
+
+// Data octets, turned back and written into an area, from a place on.
+fn copy_data(octets: &[u8], area: &mut [u8], at: usize)
+    requires { ⌜ at + length (now octets) ≤ length (now area) ⌝ }
+    ensures { λ r. ⌜ now (area .exit) ≡ write (now (area .entry)) at (map fromLine (now (octets .entry))) ⌝ }
+{
+    let mut i = 0;
+    while i < octets.len() {
+        area[at + i] = cobs::from_line(octets[i]);
+        i += 1;
+    }
+}
+
+// How many octets were used, all Quiet, and the counts of the receiver after them. Nothing else in it has changed.
+struct Passed {
+    decoded: u16,
+    left: u8,
+    used: usize,
+}
+
+// The calls for the next octets at once, as far as they are known to be Quiet: in a refused frame those before the flag, in a block the data
+// octets before a flag and before the block's last, with which its zeros are decoded.
+fn stretch(state: Receiver, octets: &[u8], first: &mut [u8], second: &mut [u8]) -> Passed
+    requires { ⌜ (inBounds (agreed (state .settings)) state ≡ true) × (2051 ≤ length (now first)) × (2051 ≤ length (now second)) ⌝ }
+    ensures { λ r. ⌜ readOn (record { state = state; first = now (first .entry); second = now (second .entry) }) (now (octets .entry))
+        ≡ further (r .used)
+        (readOn
+        (record { state = withCounts (r .decoded) (r .left) state; first = now (first .exit); second = now (second .exit) })
+        (drop (r .used) (now (octets .entry)))) ⌝ }
+    ensures { λ r. ⌜ r .used ≤ length (now (octets .entry)) ⌝ }
+{
+    if state.refusal != 0 {
+        let used = before_flag(octets);
+        return Passed {
+            decoded: state.decoded,
+            left: state.left,
+            used,
+        };
+    }
+    let ahead = state.left as usize;
+    if ahead <= 1 {
+        return Passed {
+            decoded: state.decoded,
+            left: state.left,
+            used: 0,
+        };
+    }
+    let at = state.decoded as usize;
+    let most = least(least(ahead - 1, link::MOST_DECODED - at), octets.len());
+    let used = before_flag(&octets[0..most]);
+    let decoded = (at + used) as u16;
+    let left = (ahead - used) as u8;
+    let data = &octets[0..used];
+    if state.second {
+        copy_data(data, second, at);
+    } else {
+        copy_data(data, first, at);
+    }
+    Passed {
+        decoded,
+        left,
+        used,
     }
 }
 
@@ -50,6 +143,10 @@ pub fn read_on(state: Receiver, octets: &[u8], first: &mut [u8], second: &mut [u
             };
         }
         i += 1;
+        let passed = stretch(end, &octets[i..], first, second);
+        end.decoded = passed.decoded;
+        end.left = passed.left;
+        i += passed.used;
     }
     Reached {
         state: end,

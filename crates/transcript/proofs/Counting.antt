@@ -10,7 +10,8 @@ use lib.Seq.{drop-drop}
 use Rattle.fcs.specs.Notation.{if_then_else_}
 use Rattle.link.specs.Receiver.{Receiving, Receive}
 use Rattle.link.specs.Runs.{receives, received}
-use Rattle.reader.specs.Reading.{isQuiet, Reach, readOn}
+use Rattle.link.specs.Answers.{isQuiet}
+use Rattle.reader.specs.Reading.{Reach, readOn}
 use Rattle.reader.specs.NothingLost.{answers, loud, reports, call}
 use Rattle.reader.proofs.NothingLost.{is-quiet, as-the-calls, first-then-rest, goes-through, told}
 use Rattle.tally.specs.declared.Tally.{Tally}

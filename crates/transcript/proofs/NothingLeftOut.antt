@@ -13,11 +13,10 @@ use lib.ListN.{length, take, drop, length-append, length-drop, take-append-drop}
 use lib.Seq.{take-append-seam, drop-append-seam}
 use Rattle.cobs.proofs.Tests.{branch}
 use Rattle.link.specs.Agreed.{agreed}
-use Rattle.link.specs.Answers.{Answer, done, octet, idle, quiet, packet, held, refused}
+use Rattle.link.specs.Answers.{Answer, done, octet, idle, quiet, packet, held, refused, isQuiet}
 use Rattle.link.specs.Receiver.{Receiving, Receive, areaOf, receive}
 use Rattle.link.specs.Runs.{receives, received}
 use Rattle.link.proofs.Within.{Within, within, limit-is, most-is}
-use Rattle.reader.specs.Reading.{isQuiet}
 use Rattle.reader.specs.NothingLost.{loud, reporting, reports}
 use Rattle.reader.proofs.NothingLost.{received-append, cuts}
 use Rattle.tally.specs.Counts.{note}

@@ -11,9 +11,9 @@ use borrow.Author.Tests.{lt-ltb, le-ltb}
 use borrow.Rule.Slice.PartAt.{part-to-end}
 use lib.ListN.{length, take, drop, drop-of-length-le}
 use lib.Seq.{drop-drop}
-use Rattle.link.specs.Answers.{quiet}
+use Rattle.link.specs.Answers.{quiet, isQuiet}
 use Rattle.link.specs.Receiver.{Receiving, Receive, receive}
-use Rattle.reader.specs.Reading.{isQuiet, Reach, readOn}
+use Rattle.reader.specs.Reading.{Reach, readOn}
 use Rattle.reader.specs.NothingLost.{call}
 use Rattle.reader.proofs.NothingLost.{is-quiet}
 use Rattle.reader.proofs.Steps.{from-quiet, at-report}

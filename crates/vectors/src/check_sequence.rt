@@ -1,60 +1,63 @@
 // The check sequence's vectors: document 01, "Check sequence", "Marked frames and false friends" and refusal 14; RFC 1662, C.1 and C.2.
 // A register is shown high octet first.
-use crate::line;
+use crate::answers::Answers;
+use crate::answers::none;
+use crate::answers::push;
+use crate::answers::push_all;
+use crate::rows;
+use crate::rows::Row;
 
 pub(crate) fn run() {
-    entries();
-    frames();
+    // e: an entry of the table, its place for the settings. RFC 1662's table has 0, 1 and 255 right, document 01 gives 11 and 13, and RFC
+    // 1662's generator (C.1) the four others.
+    // f, r, g: of a packet its FCS; of both the register, which ends at F0B8, and whether the frame is good. Document 01's marked frames
+    // (d), (a) and (c), the empty packet of its false friends, and refusal 14's example.
+    rows::compare_all(
+        b"e\x00\x00\x00\x07\x00\x02entry 0\x00\x00\
+        e\x01\x00\x00\x07\x00\x02entry 1\x11\x89\
+        e\x0b\x00\x00\x08\x00\x02entry 11\xbe\xd3\
+        e\x0d\x00\x00\x08\x00\x02entry 13\xdb\xe5\
+        e\x38\x00\x00\x08\x00\x02entry 56\xbd\xcb\
+        e\x58\x00\x00\x08\x00\x02entry 88\xde\xcd\
+        e\x6b\x00\x00\x09\x00\x02entry 107\xdd\xd5\
+        e\x8f\x00\x00\x09\x00\x02entry 143\x7c\xff\
+        e\xff\x00\x00\x09\x00\x02entry 255\x0f\x78\
+        f\x00\x00\x00\x06\x09\x02FCS of123456789\x6e\x90\
+        r\x00\x00\x00\x0d\x0b\x02register over123456789\x6e\x90\xf0\xb8\
+        g\x00\x00\x00\x04\x0b\x01good123456789\x6e\x90\x01\
+        f\x00\x00\x00\x06\x02\x02FCS of\x00\x00\x47\x0f\
+        r\x00\x00\x00\x0d\x04\x02register over\x00\x00\x47\x0f\xf0\xb8\
+        g\x00\x00\x00\x04\x04\x01good\x00\x00\x47\x0f\x01\
+        f\x00\x00\x00\x06\x02\x02FCS of\x7e\x7e\x6a\xff\
+        r\x00\x00\x00\x0d\x04\x02register over\x7e\x7e\x6a\xff\xf0\xb8\
+        g\x00\x00\x00\x04\x04\x01good\x7e\x7e\x6a\xff\x01\
+        f\x00\x00\x00\x06\x00\x02FCS of\x00\x00\
+        r\x00\x00\x00\x0d\x02\x02register over\x00\x00\xf0\xb8\
+        g\x00\x00\x00\x04\x02\x01good\x00\x00\x01\
+        g\x00\x00\x00\x04\x04\x01good1111\x00",
+    );
 }
 
-// RFC 1662's table has 0, 1 and 255 right, document 01 gives 11 and 13, and RFC 1662's generator (C.1) the four others.
-fn entries() {
-    entry(b"entry 0", 0, b"\x00\x00");
-    entry(b"entry 1", 1, b"\x11\x89");
-    entry(b"entry 11", 11, b"\xbe\xd3");
-    entry(b"entry 13", 13, b"\xdb\xe5");
-    entry(b"entry 56", 56, b"\xbd\xcb");
-    entry(b"entry 88", 88, b"\xde\xcd");
-    entry(b"entry 107", 107, b"\xdd\xd5");
-    entry(b"entry 143", 143, b"\x7c\xff");
-    entry(b"entry 255", 255, b"\x0f\x78");
-}
-
-// Document 01's marked frames (d), (a) and (c), the empty packet of its false friends, and refusal 14's example.
-fn frames() {
-    frame(b"123456789\x6e\x90");
-    frame(b"\x00\x00\x47\x0f");
-    frame(b"\x7e\x7e\x6a\xff");
-    frame(b"\x00\x00");
-    good(b"1111", false);
-}
-
-fn high_first(register: u16) -> [u8; 2] {
-    [(register / 256 % 256) as u8, (register % 256) as u8]
-}
-
-// A register of 0 fed the octet i is entry i.
-fn entry(name: &[u8], place: u8, expected: &[u8]) {
-    let octet = [place];
-    let register = high_first(fcs::pppfcs16(0, &octet));
-    line::compare(name, b"", &register, expected);
-}
-
-// A packet and its FCS: the FCS is that, the register over both ends at F0B8, and the frame is good.
-fn frame(octets: &[u8]) {
-    if octets.len() < 2 {
-        return;
+pub(crate) fn answer(row: Row, octets: &[u8]) -> Answers {
+    let asked = row.asked;
+    match asked {
+        // A register of 0 fed the octet i is entry i.
+        b'e' => {
+            let place = [row.settings];
+            high_first(fcs::pppfcs16(0, &place))
+        }
+        b'f' => {
+            let sequence = fcs::fcs16(octets);
+            push_all(none(), &sequence)
+        }
+        b'r' => high_first(fcs::register16(octets)),
+        _ => push(none(), fcs::good16(octets) as u8),
     }
-    let n = octets.len() - 2;
-    let sequence = fcs::fcs16(&octets[0..n]);
-    line::compare(b"FCS of", &octets[0..n], &sequence, &octets[n..]);
-    let register = high_first(fcs::register16(octets));
-    line::compare(b"register over", octets, &register, b"\xf0\xb8");
-    good(octets, true);
 }
 
-fn good(octets: &[u8], expected: bool) {
-    let answer = [fcs::good16(octets) as u8];
-    let right = [expected as u8];
-    line::compare(b"good", octets, &answer, &right);
+fn high_first(register: u16) -> Answers {
+    push(
+        push(none(), (register / 256 % 256) as u8),
+        (register % 256) as u8,
+    )
 }

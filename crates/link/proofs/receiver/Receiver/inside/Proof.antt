@@ -6,12 +6,6 @@ use Rattle.link.specs.Receiver.{inside}
 use Rattle.link.proofs.receiver.Receiver.inside.Statement.{statement}
 use Rattle.link.proofs.receiver.Receiver.inside.Tie as tie
 
-first-octet-requires : tie.Need-first-octet-requires
-first-octet-requires c κs = search needs
-
-same-length : tie.Need-same-length
-same-length c = search needs
-
 returns : tie.Need-returns
 unfolding inside
 returns c =
@@ -19,12 +13,6 @@ returns c =
     let t = d .before .before in
     let s = t .before .before .before in
     simp (eq-eqb _ _ (s .pre .0), not-true (s .args .self .framed) (t .if1 .taken)) (d .first-octet .ensures)
-
-data-octet-requires : tie.Need-data-octet-requires
-data-octet-requires c κs = search needs
-
-same-length-2 : tie.Need-same-length-2
-same-length-2 c = search needs
 
 returns-2 : tie.Need-returns-2
 unfolding inside
@@ -34,12 +22,6 @@ returns-2 c =
     let f = t .before .before in
     let s = f .before .before .before in
     simp (eq-eqb _ _ (s .pre .0), not-false (s .args .self .framed) (f .if1 .left), lt-ltb _ _ (t .if2 .taken)) (d .data-octet .ensures)
-
-code-requires : tie.Need-code-requires
-code-requires c κs = search needs
-
-same-length-3 : tie.Need-same-length-3
-same-length-3 c = search needs
 
 returns-3 : tie.Need-returns-3
 unfolding inside
@@ -54,12 +36,12 @@ pub inside-spec : {M : Type 1} → statement M
 inside-spec =
     tie.close
     (tie.spec
-    first-octet-requires
-    same-length
+    (λ c κs. search needs)
+    (λ c. search needs)
     returns
-    data-octet-requires
-    same-length-2
+    (λ c κs. search needs)
+    (λ c. search needs)
     returns-2
-    code-requires
-    same-length-3
+    (λ c κs. search needs)
+    (λ c. search needs)
     returns-3)

@@ -1,0 +1,138 @@
+-- Octets that are answered Quiet, many at once: those before a flag, in a refused frame and in a block.
+-- Assumes nothing.
+use mathlib.Core.Path.{_≡_, refl, sym, ap, subst, _∙_}
+use mathlib.Core.Bool.{true, false}
+use mathlib.Core.List.{List, [], _∷_, map}
+use Prim.Native.Nat.{ℕ, zero, suc, _+_, _-_, _≤_, _<_}
+use native.Mathlib.Nat.{add-assoc}
+use native.Mathlib.Numerals.{add-one}
+use native.Mathlib.Omega.{arith}
+use borrow.Author.Tests.{eq-eqb, ne-eqb, eqb-false}
+use lib.Dec.{eqb}
+use lib.ListN.{length, take, drop, getD, set, length-map, length-take, length-drop, drop-of-length-le}
+use lib.Seq.{take-all, drop-cons, drop-drop, sets, sets-eq}
+use Rattle.cobs.specs.CodeBlocks.{flag, fromLine}
+use Rattle.cobs.proofs.Tests.{branch}
+use Rattle.link.specs.Receiver.{Receiving, Receive, write, work, receive}
+use Rattle.link.proofs.ReadOn.{Accepts, after-quiet, skips, afterData, decodes, data-more, no-data, data-area}
+use Rattle.reader.specs.Stretches.{beforeFlag, withCounts}
+use Rattle.link.specs.Answers.{isQuiet}
+use Rattle.reader.specs.Reading.{Reach, further, readOn}
+use Rattle.reader.proofs.Steps.{from-quiet, begins}
+use Rattle.reader.proofs.NothingLost.{is-quiet}
+
+-- ---- the octets before a flag, at the numbers of a loop
+
+module _ (l : List ℕ) (i : ℕ) where
+  pub one-more : i < length l → (getD l i 0 ≡ flag → ⊥) → beforeFlag (drop i l) ≡ beforeFlag (drop (i + 1) l) + 1
+  unfolding beforeFlag
+  one-more h t = rw (add-one i, add-one (beforeFlag (drop (suc i) l)), drop-cons l i 0, ne-eqb (getD l i 0) flag t)
+
+  pub at-flag : i < length l → getD l i 0 ≡ flag → beforeFlag (drop i l) ≡ 0
+  unfolding beforeFlag
+  at-flag h t = rw (drop-cons l i 0, eq-eqb (getD l i 0) flag t)
+
+  pub at-end : length l ≤ i → beforeFlag (drop i l) ≡ 0
+  unfolding beforeFlag
+  at-end h = rw (drop-of-length-le l h)
+
+pub within : (l : List ℕ) → beforeFlag l ≤ length l
+unfolding beforeFlag
+within [] = omega arith
+within (x ∷ l) = branch (λ k. k ≤ suc (length l)) (eqb x flag) (λ _. omega arith) (λ _. omega (arith, within l))
+
+-- ---- data octets written, at the numbers of a loop
+
+pub one-stored : (area xs : List ℕ) (at next i : ℕ) → i < length xs → next ≡ at + 1
+    → sets area at (map fromLine (drop i xs)) ≡ sets (set area at (fromLine (getD xs i 0))) next (map fromLine (drop (i + 1) xs))
+one-stored area xs at next i h e = rw (e, add-one i, add-one at, drop-cons xs i 0)
+
+pub all-stored : (area xs : List ℕ) (at : ℕ) → at + length xs ≤ length area → sets area at (map fromLine xs) ≡ write area at (map fromLine xs)
+all-stored area xs at h = sets-eq (map fromLine xs) area at (rw length-map h)
+
+-- ---- reading on over them
+
+-- after a Quiet answer
+pub accepts : (e : Receiving) (x : ℕ) (h : Receive) → h ≡ receive e x → isQuiet (h .report) ≡ true → Accepts (h .after)
+accepts e x h p q =
+    subst (λ (g : Receive). Accepts (g .after)) (sym p) (after-quiet e x (ap (λ (g : Receive). g .report) (sym p) ∙ is-quiet (h .report) q))
+
+-- n octets at once, in the loop
+pub goes-far : (e f : Receiving) (xs : List ℕ) (i n : ℕ)
+    → (let rest = take (length xs - i) (drop i xs) in readOn e rest ≡ further n (readOn f (drop n rest)))
+    → further i (readOn e (drop i xs)) ≡ further (i + n) (readOn f (drop (i + n) xs))
+goes-far e f xs i n p =
+    let whole = take-all (length xs - i) (drop i xs) (omega (arith, length-drop i xs)) in
+    ap (further i) (rw whole at p) ∙ rw (drop-drop n i xs, add-assoc)
+
+one-further : (n : ℕ) (r : Reach) → further 1 (further n r) ≡ further (suc n) r
+one-further n r =
+    let e : 1 + (n + r .used) ≡ suc n + r .used = omega arith in
+    ap (λ (m : ℕ). record { report = r .report; after = r .after; used = m }) e
+
+-- a refusal is remembered
+pub skips-on : (e : Receiving) → Accepts e → (e .state .refusal ≡ 0 → ⊥) → (l : List ℕ)
+    → readOn e l ≡ further (beforeFlag l) (readOn e (drop (beforeFlag l) l))
+unfolding beforeFlag
+skips-on e a n [] = begins e []
+skips-on e a n (x ∷ l) =
+    branch (λ k. readOn e (x ∷ l) ≡ further k (readOn e (drop k (x ∷ l)))) (eqb x flag) (λ _. begins e (x ∷ l))
+    (λ t. from-quiet e x l _ (sym (skips e x a n (eqb-false x flag t))) refl ∙ ap (further 1) (skips-on e a n l) ∙ one-further _ _)
+
+-- k data octets, turned back and stored behind those decoded
+abbrev pub stored : ℕ → List ℕ → Receiving → Receiving
+stored k l e = afterData k (sets (work e .area) (e .state .decoded) (map fromLine (take k l))) e
+
+none-stored : (e : Receiving) (l : List ℕ) → readOn e l ≡ further 0 (readOn (stored 0 l e) (drop 0 l))
+none-stored e l = rw (no-data e) (begins e l)
+
+stored-more : (k x : ℕ) (l : List ℕ) (e : Receiving)
+    → stored k l (afterData 1 (set (work e .area) (e .state .decoded) (fromLine x)) e) ≡ stored (suc k) (x ∷ l) e
+stored-more k x l e =
+    let n = e .state .decoded in
+    let one = set (work e .area) n (fromLine x) in
+    let rest = map fromLine (take k l) in
+    let s = ap (λ (area : List ℕ). sets area (n + 1) rest) (data-area 1 one e) ∙ ap (λ (m : ℕ). sets one m rest) (add-one n) in
+    ap (λ (area : List ℕ). afterData k area (afterData 1 one e)) s ∙ data-more k (sets one (suc n) rest) one e
+
+-- n data octets are left before the last of their block, and there is room for them
+pub stores-on : (n : ℕ) (l : List ℕ) (e : Receiving) → Accepts e → e .state .refusal ≡ 0 → n < e .state .left → e .state .decoded + n ≤ 2051
+    → (let k = beforeFlag (take n l) in readOn e l ≡ further k (readOn (stored k l e) (drop k l)))
+unfolding beforeFlag
+stores-on zero l e a c h d = none-stored e l
+stores-on (suc n) [] e a c h d = none-stored e []
+stores-on (suc n) (x ∷ l) e a c h d =
+    branch (λ k. readOn e (x ∷ l) ≡ further k (readOn (stored k (x ∷ l) e) (drop k (x ∷ l)))) (eqb x flag) (λ _. none-stored e (x ∷ l))
+    (λ t.
+    let p = decodes e x a c (omega arith) (omega arith) (eqb-false x flag t) in
+    let k = beforeFlag (take n l) in
+    let f = subst (λ (h : Receive). Accepts (h .after)) p (after-quiet e x (ap (λ (h : Receive). h .report) p)) in
+    from-quiet e x l _ (sym p) refl
+    ∙ ap (further 1) (stores-on n l _ f c (omega arith) (omega arith))
+    ∙ ap (λ (g : Receiving). further 1 (further k (readOn g (drop k l)))) (stored-more k x l e)
+    ∙ one-further _ _)
+
+-- the same as the code does it: `used` octets are written into the work area, which is `area` afterwards
+module _ (e : Receiving) (l : List ℕ) (n used : ℕ) (area : List ℕ) (a : Accepts e) (c : e .state .refusal ≡ 0) (h : n < e .state .left)
+    (d : e .state .decoded + n ≤ 2051) (k : used ≡ beforeFlag (take n l)) where
+  reads-on : area ≡ write (work e .area) (e .state .decoded) (map fromLine (take used l))
+      → readOn e l ≡ further used (readOn (afterData used area e) (drop used l))
+  reads-on w =
+      let m = e .state .decoded in
+      let long : 2051 ≤ length (work e .area) = branch (λ (b : List ℕ). 2051 ≤ length b) (e .state .second) (λ _. a .2) (λ _. a .1) in
+      let fits : m + length (take used l) ≤ length (work e .area) =
+      omega (arith, long, k, within (take n l), length-take n l, length-take used l) in
+      let p : readOn e l ≡ further used (readOn (stored used l e) (drop used l)) = rw k (stores-on n l e a c h d) in
+      p ∙ ap (λ (b : List ℕ). further used (readOn (afterData used b e) (drop used l))) (all-stored (work e .area) (take used l) m fits ∙ sym w)
+
+  abbrev after : List ℕ → List ℕ → Receiving
+  after first second =
+      record { state = withCounts (e .state .decoded + used) (e .state .left - used) (e .state); first = first; second = second }
+
+  pub in-second : e .state .second ≡ true → area ≡ write (e .second) (e .state .decoded) (map fromLine (take used l))
+      → readOn e l ≡ further used (readOn (after (e .first) area) (drop used l))
+  in-second t w = simp t (simp t at (reads-on (simp t w)))
+
+  pub in-first : e .state .second ≡ false → area ≡ write (e .first) (e .state .decoded) (map fromLine (take used l))
+      → readOn e l ≡ further used (readOn (after area (e .second)) (drop used l))
+  in-first t w = simp t (simp t at (reads-on (simp t w)))

@@ -1,0 +1,178 @@
+-- `reader::stretch`. In a refused frame the octets before the flag are skipped; in a block those counted are the ones copied.
+-- Assumes nothing.
+use mathlib.Core.Path.{_≡_}
+use Prim.Native.Nat.{_+_, _-_, _≤_, _<_}
+use native.Mathlib.Nat.{sub-zero}
+use native.Mathlib.Omega.{arith}
+use borrow.Author.Needs.{needs}
+use lib.ListN.{length, take, length-take}
+use Rattle.link.specs.Receiver.{Receiving}
+use Rattle.link.proofs.ReadOn.{deep}
+use Rattle.reader.specs.Stretches.{beforeFlag}
+use Rattle.reader.proofs.Steps.{begins}
+use Rattle.reader.proofs.Quiet.{within, skips-on, in-second, in-first}
+use Rattle.reader.proofs.stretch.Statement.{statement}
+use Rattle.reader.proofs.stretch.Tie as tie
+
+-- the receiver and the two areas as the call finds them
+abbrev found : tie.Start → Receiving
+found s = record { state = s .args .state; first = s .args .first .now; second = s .args .second .now }
+
+-- where the data octets to be copied are counted
+abbrev start : tie.After-before-flag2 → tie.Start
+start c = c .before .before .before .before .before .before .before .before .before .before .before .before
+
+-- no more than are left before the last, than there is room for, and than there are
+most : (c : tie.After-least2)
+    → (let s = c .before .before .before .before .before .before .before .before .before .before in
+    (c .least2 .result < s .args .state .left) × (s .args .state .decoded + c .least2 .result ≤ 2051) × (c .least2 .result ≤ length (s .args .octets .now)))
+most c =
+    let k = c .before in
+    let s = k .before .before .before .before .before .before .before .before .before in
+    omega (arith, c .least2 .ensures, k .least .ensures, k .before .before .if2 .left, deep (found s) (s .pre))
+
+counted : (c : tie.After-before-flag2) → c .before-flag2 .result ≡ beforeFlag (take (c .before .before .least2 .result) (start c .args .octets .now))
+counted c = rw sub-zero at (c .before-flag2 .ensures)
+
+used : (c : tie.After-before-flag2) → c .before-flag2 .result ≤ c .before .before .least2 .result
+used c =
+    let n = c .before .before .least2 .result in
+    let l = start c .args .octets .now in
+    omega (arith, counted c, within (take n l), length-take n l)
+
+-- no refusal is remembered
+clean : (c : tie.After-before-flag2) → start c .args .state .refusal ≡ 0
+clean c = c .before .before .before .before .before .before .before .if1 .left
+
+-- both areas have room for them
+fits : (c : tie.After-before-flag2)
+    → (let s = start c in
+    let n = s .args .state .decoded + length (take (c .before-flag2 .result - 0) (s .args .octets .now)) in
+    (n ≤ length (s .args .first .now)) × (n ≤ length (s .args .second .now)))
+fits c =
+    let s = start c in
+    omega (arith, used c, most (c .before .before), length-take (c .before-flag2 .result - 0) (s .args .octets .now), s .pre)
+
+before-flag-requires : tie.Need-before-flag-requires
+before-flag-requires c κs = search needs
+
+returns : tie.Need-returns
+returns c =
+    let s = c .before .before .before .before .before .before in
+    let l = s .args .octets .now in
+    (rw (c .before-flag .ensures) (skips-on (found s) (s .pre) (c .before .if1 .taken) l), omega (arith, c .before-flag .ensures, within l))
+
+cast-ahead : tie.Need-cast-ahead
+cast-ahead c = search needs
+
+returns-2 : tie.Need-returns-2
+returns-2 c = (begins _ _, omega arith)
+
+cast-at : tie.Need-cast-at
+cast-at c = search needs
+
+sub-least : tie.Need-sub-least
+sub-least c = search needs
+
+sub-least-2 : tie.Need-sub-least-2
+sub-least-2 c = let s = c .before .before .before .before .before .before .before .before in deep (found s) (s .pre)
+
+least-requires : tie.Need-least-requires
+least-requires c κs = search needs
+
+least-requires-2 : tie.Need-least-requires-2
+least-requires-2 c κs = search needs
+
+sub-before-flag : tie.Need-sub-before-flag
+sub-before-flag c = search needs
+
+part-before-flag-start : tie.Need-part-before-flag-start
+part-before-flag-start c = search needs
+
+part-before-flag-end : tie.Need-part-before-flag-end
+part-before-flag-end c = search needs
+
+before-flag-requires-2 : tie.Need-before-flag-requires-2
+before-flag-requires-2 c κs = search needs
+
+add-decoded : tie.Need-add-decoded
+add-decoded c = omega (arith, used c, most (c .before .before))
+
+cast-decoded : tie.Need-cast-decoded
+cast-decoded c = omega (arith, used c, most (c .before .before))
+
+sub-left : tie.Need-sub-left
+sub-left c = omega (arith, used c, most (c .before .before))
+
+cast-left : tie.Need-cast-left
+cast-left c = search needs
+
+sub-data : tie.Need-sub-data
+sub-data c = search needs
+
+part-data-start : tie.Need-part-data-start
+part-data-start c = search needs
+
+part-data-end : tie.Need-part-data-end
+part-data-end c = omega (arith, used c, most (c .before .before))
+
+copy-data-requires : tie.Need-copy-data-requires
+copy-data-requires c κs = fits (c .before .before .before) .1
+
+copy-data-requires-2 : tie.Need-copy-data-requires-2
+copy-data-requires-2 c κs = fits (c .before .before .before) .0
+
+same-length : tie.Need-same-length
+same-length c = search needs
+
+returns-3 : tie.Need-returns-3
+returns-3 c =
+    let w = c .before .before in
+    let u = w .before .before .before .before in (
+      in-second (found (start u)) _ (u .before .before .least2 .result) (u .before-flag2 .result) _ (start u .pre) (clean u) (most (u .before .before) .0)
+          (most (u .before .before) .1) (counted u) (w .before .before .if3 .taken) (rw sub-zero at (w .copy-data .ensures)),
+      omega (arith, used u, most (u .before .before)),
+    )
+
+same-length-2 : tie.Need-same-length-2
+same-length-2 c = search needs
+
+returns-4 : tie.Need-returns-4
+returns-4 c =
+    let w = c .before .before in
+    let u = w .before .before .before .before in (
+      in-first (found (start u)) _ (u .before .before .least2 .result) (u .before-flag2 .result) _ (start u .pre) (clean u) (most (u .before .before) .0)
+          (most (u .before .before) .1) (counted u) (w .before .before .if3 .left) (rw sub-zero at (w .copy-data2 .ensures)),
+      omega (arith, used u, most (u .before .before)),
+    )
+
+pub stretch-spec : {M : Type 1} → statement M
+stretch-spec =
+    tie.close
+    (tie.spec
+    before-flag-requires
+    returns
+    cast-ahead
+    returns-2
+    cast-at
+    sub-least
+    sub-least-2
+    least-requires
+    least-requires-2
+    sub-before-flag
+    part-before-flag-start
+    part-before-flag-end
+    before-flag-requires-2
+    add-decoded
+    cast-decoded
+    sub-left
+    cast-left
+    sub-data
+    part-data-start
+    part-data-end
+    copy-data-requires
+    copy-data-requires-2
+    same-length
+    returns-3
+    same-length-2
+    returns-4)

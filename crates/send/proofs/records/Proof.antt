@@ -1,0 +1,49 @@
+-- `send::records` is safe and ends.
+-- Assumes nothing.
+use mathlib.Core.Path.{_≡_}
+use Prim.Native.Nat.{_-_, _≤_, _<_}
+use borrow.Author.Needs.{needs}
+use native.Mathlib.Omega.{arith}
+use lib.ListN.{length}
+use Rattle.send.proofs.records.Statement.{statement}
+use Rattle.send.proofs.records.Tie as tie
+
+abbrev Inv-loop : tie.InvT-loop
+Inv-loop octets low₀ high₀ page₀ end₀ at₀ low high page end at = (at ≤ length octets) × (end .filled < length page) × (length low ≡ length low₀) × (length high ≡ length high₀) × (length page ≡ length page₀)
+
+abbrev μ-loop : tie.MeasureT-loop
+μ-loop octets low₀ high₀ page₀ end₀ at₀ low high page end at = length octets - at
+
+add-at : tie.Need-add-at Inv-loop μ-loop
+add-at c =
+    let k = c .before .before .before .before .before .before .before .before in
+    let a = k .before .before .before .before in
+    let l = a .before .before in
+    omega (arith, l .loop .inv .0, k .record .ensures .1, a .record-arg .given, l .before .before .before .before .before .good)
+
+pub records-spec : {M : Type 1} → statement M
+records-spec =
+    tie.close
+    (tie.spec
+    Inv-loop
+    μ-loop
+    (λ c. search needs)
+    (λ c. search needs)
+    (λ c. search needs)
+    (λ c. search needs)
+    (λ c κs. search needs)
+    add-at
+    (λ c. search needs)
+    (λ c. search needs)
+    (λ c. search needs)
+    (λ c. search needs)
+    (λ c. search needs)
+    (λ c. search needs)
+    (λ c. search needs)
+    (λ c. search needs)
+    (λ c. search needs)
+    (λ c. search needs)
+    (λ c. search needs)
+    (λ c. search needs)
+    (λ c. search needs)
+    (λ c. search needs))

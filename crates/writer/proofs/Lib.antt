@@ -1,0 +1,2 @@
+-- Steps: writing on, octet by octet.
+pub mod Steps
