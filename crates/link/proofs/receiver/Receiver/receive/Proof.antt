@@ -52,12 +52,18 @@ at-flag-requires c κs = let b = c .before .before .before in omega (arith, fits
 at-flag-requires-2 : tie.Need-at-flag-requires-2
 at-flag-requires-2 c κs = let b = c .before .before .before in omega (arith, fits b, long b)
 
+same-length : tie.Need-same-length
+same-length c = search needs
+
 returns-3 : tie.Need-returns-3
 returns-3 c =
     let t = c .before .before in
     let b = t .before .before in
     let e = found (start b) in
     ap (flagged e) (c .at-flag .ensures) ∙ sym (flag-second e _ (b .before .before .if1 .left) (bounds b) (t .before .if3 .taken) (t .if4 .taken))
+
+same-length-2 : tie.Need-same-length-2
+same-length-2 c = search needs
 
 returns-4 : tie.Need-returns-4
 returns-4 c =
@@ -85,6 +91,9 @@ inside-requires-2 c κs =
     let n = c .before .before .before in
     (n .if5 .left, long (n .before .before .before) .0)
 
+same-length-3 : tie.Need-same-length-3
+same-length-3 c = search needs
+
 returns-6 : tie.Need-returns-6
 returns-6 c =
     let w = c .before .before in
@@ -92,6 +101,9 @@ returns-6 c =
     let e = found (start (t .before)) in
     ap (inSecond e) (rw (w .before .before .before .from-line .ensures) at (w .inside .ensures))
     ∙ sym (octet-second e _ (t .before .before .before .if1 .left) (bounds (t .before)) (t .if3 .left) (w .before .before .if6 .taken))
+
+same-length-4 : tie.Need-same-length-4
+same-length-4 c = search needs
 
 returns-7 : tie.Need-returns-7
 returns-7 c =
@@ -110,15 +122,15 @@ receive-spec =
     returns-2
     at-flag-requires
     at-flag-requires-2
-    (λ c. search needs)
+    same-length
     returns-3
-    (λ c. search needs)
+    same-length-2
     returns-4
     returns-5
     from-line-requires
     inside-requires
     inside-requires-2
-    (λ c. search needs)
+    same-length-3
     returns-6
-    (λ c. search needs)
+    same-length-4
     returns-7)
