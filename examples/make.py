@@ -1,5 +1,5 @@
 #!/usr/bin/env python3
-"""Writes the sample captures, and beside each what the independent model (tests/model) prints of it.
+"""Writes the sample captures, and beside each what the independent model (tests/model) prints of it; and a sample for send.
 
     python3 examples/make.py MODEL      MODEL: tests/model/model.rs, compiled
 
@@ -97,38 +97,59 @@ QUIET = FLAG * 3 + b"".join((
     frame(datagram(2, 9, b"T-04.4 W12")),
 ))
 
-# ---- a season later: urgent traffic, and noise
+# ---- a season later: urgent traffic, and noise. Every packet is another one: echo replies 81 to 89, datagrams 901 to 908.
+
+WEATHER = (
+    b"T-11.0 W31 T-11.3 W33 T-11.4 W30",
+    b"T-11.5 W32 T-11.6 W34 T-11.8 W33",
+    b"T-11.8 W36 T-11.7 W35 T-11.9 W38",
+    b"T-11.9 W35 T-12.0 W37 T-12.2 W36",
+)
+
+
+def interrupted(number, at):
+    """A long datagram broken off by an alarm, and resumed: the three frames. Both have numbers of their own."""
+    batch = datagram(number, 9, WEATHER[(number - 901) // 2])
+    return broken_off(batch, at, datagram(number + 1, 911, b"SNOW %d" % (number + 1)))
 
 
 def season():
-    batch = datagram(901, 9, b"T-11.0 W31 T-11.3 W33 T-11.4 W30")
-    alarm = datagram(902, 911, b"SNOW")
-    cut, urgent, rest = broken_off(batch, 40, alarm)
     yield frame(echo_reply(81))[6:]              # the capture begins inside a frame
     yield frame(echo_reply(82))
-    yield cut                                    # broken off, the urgent packet, resumed
-    yield urgent
-    yield rest
+    yield from interrupted(901, 40)              # broken off, the alarm, resumed
     yield flipped(frame(echo_reply(83)), 6, 1)   # one bit turned
     yield frame(echo_reply(84))[:-1]             # its flag is lost, so it runs into the next
     yield frame(echo_reply(85))
-    yield cut                                    # broken off again, and the rest is hit by noise
-    yield urgent
-    yield flipped(rest, 9, 4)
-    yield cut                                    # broken off, and the rest never arrives
-    yield urgent
+    cut, alarm, rest = interrupted(903, 40)      # broken off, and the rest is hit by noise
+    yield cut + alarm + flipped(rest, 9, 4)
+    cut, alarm, rest = interrupted(905, 40)      # broken off, and the rest never arrives
+    yield cut + alarm
     yield frame(echo_reply(86))
-    other = datagram(903, 9, b"T-11.9 W35 T-12.0 W37 T-12.2 W36")
-    cut2, urgent2, rest2 = broken_off(other, 33, alarm)
-    yield cut2                                   # another is broken off meanwhile, and replaces what is held
-    yield urgent2
-    yield rest2
-    yield rest2                                  # the same rest once more, as after an echo on the line: nothing is held
+    cut, alarm, rest = interrupted(907, 33)      # another is broken off meanwhile, and replaces what is held
+    yield cut + alarm + rest
+    yield rest                                   # the same rest once more, as after an echo on the line: nothing is held
     yield b"\xff\x03" + echo_reply(87) + FLAG    # an old modem's framing
     yield frame(echo_reply(88))
     yield frame(echo_reply(89))[:-4]             # the capture ends inside a frame
 
 
+# ---- for the sender: a file of packets (docs/SEND.md), and the line that the model makes of the same calls
+
+BATCH = datagram(921, 9, b"T-13.1 W40 T-13.3 W41 T-13.2 W44")
+ALARM = datagram(922, 911, b"WIND 44")
+
+
+def record(lane, wait, packet):
+    return lane + struct.pack(">HH", wait, len(packet)) + packet
+
+
+RECORDS = b"\x03" + record(b"L", 0, BATCH) + record(b"H", 40, ALARM) + record(b"L", 0, echo_reply(91))
+LINE = sent(load(b"l", BATCH) + calls(40) + load(b"h", ALARM) + calls(9000) + load(b"l", echo_reply(91)) + calls(5000))
+
+
 write("marked", bytes.fromhex(MARKED))
 write("quiet-link", QUIET)
 write("season-later", b"".join(season()))
+write("alarm", LINE)
+with open(os.path.join(HERE, "alarm.records"), "wb") as f:
+    f.write(RECORDS)

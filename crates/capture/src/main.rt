@@ -1,59 +1,83 @@
-// The capture reader (document 01, "Display, tally, capture program"): raw octets of a line on standard input, a line for each report on
-// standard output. Both settings are on. A frame that is not closed prints nothing.
+// The capture reader (document 01, "Display, tally, capture program"): raw octets of a line, a line for each report on standard output. Each file that it
+// is called with is a capture of its own. Both settings are on. A frame that is not closed prints nothing.
 ghost use Prim.Native.Nat.{_≤_};
 ghost use lib.ListN.{length};
 ghost use Rattle.transcript.specs.Transcript.{longest};
-use libc::STDIN_FILENO;
+use files::Output;
 use libc::STDOUT_FILENO;
 use link::receiver::Receiver;
 
 // ZXE and PRE.
 const SETTINGS: u8 = 0x03;
 
-// The receiver between reads. on: there may be more to read, and what was read is written.
+// The receiver between reads. on: what was read is written.
 struct Turn {
     state: Receiver,
     on: bool,
 }
 
 fn main() {
+    let end = files::end();
+    let mut output = files::nothing_printed();
+    let mut number = 1usize;
+    while number < end {
+        output = capture(number, output);
+        if !output.on {
+            return;
+        }
+        number += 1;
+    }
+}
+
+// The capture that an argument names.
+fn capture(number: usize, output: Output) -> Output {
+    let mut name = io::buffer();
+    let file = files::open(b"capture", number, &mut name);
+    let fd = file.fd;
+    if fd < 0 {
+        return output;
+    }
+    let n = file.length;
+    let after = print(fd, &name[0..n], output);
+    files::close(fd);
+    after
+}
+
+// The lines of a capture, from its first octet to its last.
+fn print(fd: i32, name: &[u8], output: Output) -> Output {
     let mut buffer = io::large_buffer();
+    let mut got = libc::read(fd, &mut buffer);
+    if got < 0 {
+        unread(name);
+        return output;
+    }
+    let mut after = files::head(b"capture", name, output);
+    if !after.on {
+        return after;
+    }
     let mut page = io::large_buffer();
     let mut first = [0u8; 2051];
     let mut second = [0u8; 2051];
     let mut state = link::receiver::open(SETTINGS);
     let mut reads = u64::MAX;
     while reads > 0 {
-        let turn = read(state, &mut buffer, &mut first, &mut second, &mut page);
+        if got <= 0 {
+            break;
+        }
+        let n = io::count(got, &buffer);
+        let turn = write(state, &buffer[..n], &mut first, &mut second, &mut page);
         if !turn.on {
-            return;
+            after.on = false;
+            return after;
         }
         state = turn.state;
+        got = libc::read(fd, &mut buffer);
         reads -= 1;
     }
-}
-
-// One read, and the lines of what came.
-fn read(
-    state: Receiver,
-    buffer: &mut [u8],
-    first: &mut [u8],
-    second: &mut [u8],
-    page: &mut [u8],
-) -> Turn
-    requires { ⌜ longest ≤ length (now page) ⌝ }
-{
-    let got = libc::read(STDIN_FILENO, buffer);
     if got < 0 {
-        os::fail(
-            b"capture: standard input cannot be read further; the lines are those of what came before",
-        );
+        cut_off(name);
     }
-    if got <= 0 {
-        return Turn { state, on: false };
-    }
-    let n = io::count(got, buffer);
-    write(state, &buffer[..n], first, second, page)
+    after
 }
 
 // The lines of a stretch of octets, page after page.
@@ -74,9 +98,21 @@ fn write(
         at += printed.used;
         let filled = printed.filled;
         if !io::write_all(STDOUT_FILENO, &page[0..filled]) {
-            os::fail(b"capture: standard output cannot be written; lines are missing");
+            files::unwritten(b"capture");
             return Turn { state, on: false };
         }
     }
     Turn { state, on: true }
+}
+
+fn unread(name: &[u8]) {
+    files::fail(b"capture", name, b"cannot be read");
+}
+
+fn cut_off(name: &[u8]) {
+    files::fail(
+        b"capture",
+        name,
+        b"cannot be read further; the lines are those of what came before",
+    );
 }

@@ -1,6 +1,6 @@
-// Counts the reports of a capture: raw octets of a line on standard input, at its end the tally's thirteen counts on standard output, a
-// line each. Both settings are on, as in the capture reader.
-use libc::STDIN_FILENO;
+// Counts the reports of a capture: raw octets of a line, at its end the tally's thirteen counts on standard output, a line each. Each file that it is called
+// with is a capture of its own. Both settings are on, as in the capture reader.
+use files::Output;
 use libc::STDOUT_FILENO;
 use link::receiver::Receiver;
 use tally::Tally;
@@ -8,60 +8,82 @@ use tally::Tally;
 // ZXE and PRE.
 const SETTINGS: u8 = 0x03;
 
-// The receiver and the counts between reads. on: there may be more to read.
-struct Turn {
-    state: Receiver,
+// A capture's counts. read: it could be read, at least in part.
+struct Counted {
     counts: Tally,
-    on: bool,
+    read: bool,
 }
 
 fn main() {
+    let end = files::end();
+    let mut output = files::nothing_printed();
+    let mut number = 1usize;
+    while number < end {
+        output = capture(number, output);
+        if !output.on {
+            return;
+        }
+        number += 1;
+    }
+}
+
+// The capture that an argument names.
+fn capture(number: usize, output: Output) -> Output {
+    let mut name = io::buffer();
+    let file = files::open(b"count", number, &mut name);
+    let fd = file.fd;
+    if fd < 0 {
+        return output;
+    }
+    let n = file.length;
+    let counted = count(fd, &name[0..n]);
+    files::close(fd);
+    if !counted.read {
+        return output;
+    }
+    let counts = counted.counts;
+    let mut after = files::head(b"count", &name[0..n], output);
+    if after.on {
+        after.on = print(counts);
+    }
+    after
+}
+
+// The reports of a capture, from its first octet to its last.
+fn count(fd: i32, name: &[u8]) -> Counted {
     let mut buffer = io::large_buffer();
     let mut first = [0u8; 2051];
     let mut second = [0u8; 2051];
-    let mut turn = Turn {
-        state: link::receiver::open(SETTINGS),
-        counts: tally::empty(),
-        on: true,
-    };
+    let mut state = link::receiver::open(SETTINGS);
+    let mut counts = tally::empty();
+    let mut got = libc::read(fd, &mut buffer);
+    if got < 0 {
+        unread(name);
+        return Counted {
+            counts,
+            read: false,
+        };
+    }
     let mut reads = u64::MAX;
     while reads > 0 {
-        turn = read(turn, &mut buffer, &mut first, &mut second);
-        if !turn.on {
+        if got <= 0 {
             break;
         }
+        let n = io::count(got, &buffer);
+        let counted = transcript::count(state, counts, &buffer[..n], &mut first, &mut second);
+        state = counted.state;
+        counts = counted.counts;
+        got = libc::read(fd, &mut buffer);
         reads -= 1;
     }
-    print(turn.counts);
-}
-
-// One read, and the reports of what came.
-fn read(turn: Turn, buffer: &mut [u8], first: &mut [u8], second: &mut [u8]) -> Turn {
-    let got = libc::read(STDIN_FILENO, buffer);
     if got < 0 {
-        os::fail(
-            b"count: standard input cannot be read further; the counts are those of what came before",
-        );
+        cut_off(name);
     }
-    if got <= 0 {
-        let mut last = turn;
-        last.on = false;
-        return last;
-    }
-    let n = io::count(got, buffer);
-    let state = turn.state;
-    let counts = turn.counts;
-    let counted = transcript::count(state, counts, &buffer[..n], first, second);
-    let after = counted.state;
-    let sums = counted.counts;
-    Turn {
-        state: after,
-        counts: sums,
-        on: true,
-    }
+    Counted { counts, read: true }
 }
 
-fn print(counts: Tally) {
+// The answer says whether all was written.
+fn print(counts: Tally) -> bool {
     let mut page = io::buffer();
     let mut filled = 0usize;
     let mut place = 0usize;
@@ -69,7 +91,7 @@ fn print(counts: Tally) {
         filled = line(place, counts.counts[place], &mut page, filled);
         place += 1;
     }
-    write_out(&page, filled);
+    write_out(&page, filled)
 }
 
 // A count's line: its name and the number.
@@ -102,11 +124,24 @@ fn refusal(place: usize) -> u64 {
     0
 }
 
-fn write_out(page: &[u8], filled: usize) {
+fn write_out(page: &[u8], filled: usize) -> bool {
     if filled <= page.len() {
         if io::write_all(STDOUT_FILENO, &page[0..filled]) {
-            return;
+            return true;
         }
     }
-    os::fail(b"count: standard output cannot be written; counts are missing");
+    files::unwritten(b"count");
+    false
+}
+
+fn unread(name: &[u8]) {
+    files::fail(b"count", name, b"cannot be read");
+}
+
+fn cut_off(name: &[u8]) {
+    files::fail(
+        b"count",
+        name,
+        b"cannot be read further; the counts are those of what came before",
+    );
 }

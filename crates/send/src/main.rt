@@ -1,8 +1,8 @@
-// The sender as a program: packets on standard input, the octets of the line on standard output (docs/SEND.md).
+// The sender as a program: packets in, the octets of the line on standard output (docs/SEND.md). Each file that it is called with has a sender of its own.
 ghost use mathlib.Core.Path.{_≡_};
 ghost use Prim.Native.Nat.{_≤_, _<_};
 ghost use lib.ListN.{length};
-use libc::STDIN_FILENO;
+use libc::STDERR_FILENO;
 use libc::STDOUT_FILENO;
 use link::sender::Lane;
 use link::sender::LoadAnswer;
@@ -11,10 +11,21 @@ use link::sender::Sender;
 // Octets of a record before its packet: the lane, and two numbers of two octets.
 const HEAD: usize = 5;
 
-// The sender, and how many octets on the page are still to be written. on: nothing was complained of.
+// What ended a line before its time.
+enum Fault {
+    Nothing,
+    Unread,
+    CutShort,
+    NoLane,
+    Refused,
+    Unwritten,
+}
+
+// The sender, and how many octets on the page are still to be written. on: the line is not at its end, and there was no fault.
 struct Line {
     state: Sender,
     filled: usize,
+    fault: Fault,
     on: bool,
 }
 
@@ -24,9 +35,10 @@ struct Step {
     octets: usize,
 }
 
-// The line after some records, and how many octets of the input they took.
+// The line after some records, how many these were, and how many octets of the input they took.
 struct Taken {
     line: Line,
+    records: usize,
     used: usize,
 }
 
@@ -36,37 +48,83 @@ struct Came {
     octets: usize,
 }
 
-// The line between reads, and how many octets of a record that is not whole stand at the input's start.
+// The line between reads, the records that a read made whole, and how many octets of one that is not whole stand at the input's start.
 struct Rest {
     line: Line,
+    records: usize,
+    used: usize,
     kept: usize,
 }
 
+// A line at its end, and where in the file that is: behind so many records and so many octets.
+struct Outcome {
+    fault: Fault,
+    records: u64,
+    octets: u64,
+}
+
 fn main() {
-    let mut settings = [0u8; 1];
-    if libc::read(STDIN_FILENO, &mut settings) <= 0 {
-        os::fail(b"send: there is no settings octet");
-        return;
+    let end = files::end();
+    let mut number = 1usize;
+    while number < end {
+        if !file(number) {
+            return;
+        }
+        number += 1;
     }
+}
+
+// The file that an argument names. The answer says whether all of it was sent.
+fn file(number: usize) -> bool {
+    let mut name = io::buffer();
+    let file = files::open(b"send", number, &mut name);
+    let fd = file.fd;
+    if fd < 0 {
+        return false;
+    }
+    let n = file.length;
+    let mut settings = [0u8; 1];
+    let got = libc::read(fd, &mut settings);
+    if got <= 0 {
+        return no_settings(got, &name[0..n]);
+    }
+    let outcome = all(fd, settings[0]);
+    files::close(fd);
+    told(outcome, &name[0..n])
+}
+
+// The line of a file's records.
+fn all(fd: i32, settings: u8) -> Outcome {
     let mut input = input_buffer();
     let mut page = io::large_buffer();
     let mut low = [0u8; 2050];
     let mut high = [0u8; 2050];
     let mut line = Line {
-        state: link::sender::open(settings[0]),
+        state: link::sender::open(settings),
         filled: 0,
+        fault: Fault::Nothing,
         on: true,
     };
     let mut kept = 0usize;
+    let mut records = 0u64;
+    let mut octets = 1u64;
     let mut reads = u64::MAX;
     while reads > 0 {
-        let rest = read(line, kept, &mut input, &mut low, &mut high, &mut page);
+        let rest = read(fd, line, kept, &mut input, &mut low, &mut high, &mut page);
         line = rest.line;
         kept = rest.kept;
+        records = std::num::wrapping_add_u64(records, rest.records as u64);
+        octets = std::num::wrapping_add_u64(octets, rest.used as u64);
         if !line.on {
-            return;
+            break;
         }
         reads -= 1;
+    }
+    let fault = line.fault;
+    Outcome {
+        fault,
+        records,
+        octets,
     }
 }
 
@@ -86,6 +144,7 @@ fn number(high: u8, low: u8) -> u16 {
 
 // One read, and the records that are whole with it.
 fn read(
+    fd: i32,
     line: Line,
     kept: usize,
     input: &mut [u8],
@@ -96,22 +155,24 @@ fn read(
     requires { ⌜ (line .filled < length (now page)) × (kept ≤ length (now input)) ⌝ }
     ensures { λ r. ⌜ (r .line .filled < length (now (page .exit))) × (r .kept ≤ length (now (input .exit))) ⌝ }
 {
-    let came = more(kept, input);
+    let came = more(fd, kept, input);
     if came.got <= 0 {
         let over = finish(line, came.got, kept, low, high, page);
         return Rest {
             line: over,
+            records: 0,
+            used: 0,
             kept: 0,
         };
     }
     take(line, came.octets, input, low, high, page)
 }
 
-fn more(kept: usize, input: &mut [u8]) -> Came
+fn more(fd: i32, kept: usize, input: &mut [u8]) -> Came
     requires { ⌜ kept ≤ length (now input) ⌝ }
     ensures { λ r. ⌜ r .octets ≤ length (now (input .exit)) ⌝ }
 {
-    let got = libc::read(STDIN_FILENO, &mut input[kept..]);
+    let got = libc::read(fd, &mut input[kept..]);
     let octets = kept + io::count(got, &input[kept..]);
     Came { got, octets }
 }
@@ -131,7 +192,12 @@ fn take(
     let taken = records(line, &input[0..n], low, high, page);
     let after = taken.line;
     let kept = keep(taken.used, n, input);
-    Rest { line: after, kept }
+    Rest {
+        line: after,
+        records: taken.records,
+        used: taken.used,
+        kept,
+    }
 }
 
 // The end of the input: what the sender holds is sent.
@@ -140,10 +206,10 @@ fn finish(line: Line, got: isize, kept: usize, low: &[u8], high: &[u8], page: &m
     ensures { λ r. ⌜ r .filled < length (now (page .exit)) ⌝ }
 {
     if got < 0 {
-        return unreadable(line, page);
+        return stop(line, Fault::Unread, page);
     }
     if 0 < kept {
-        return cut_short(line, page);
+        return stop(line, Fault::CutShort, page);
     }
     let idle = send(line, 0xffff_ffff_ffff_ffff, low, high, page);
     let mut over = write_out(idle, page);
@@ -164,12 +230,13 @@ fn keep(from: usize, to: usize, input: &mut [u8]) -> usize
     i
 }
 
-// The records of a stretch of input, up to the first that is not whole or is complained of.
+// The records of a stretch of input, up to the first that is not whole or has a fault.
 fn records(line: Line, octets: &[u8], low: &mut [u8], high: &mut [u8], page: &mut [u8]) -> Taken
     requires { ⌜ line .filled < length (now page) ⌝ }
     ensures { λ r. ⌜ (r .line .filled < length (now (page .exit))) × (r .used ≤ length (now (octets .entry))) ⌝ }
 {
     let mut end = line;
+    let mut whole = 0usize;
     let mut at = 0usize;
     while at < octets.len() {
         let taken = record(end, &octets[at..], low, high, page);
@@ -178,32 +245,38 @@ fn records(line: Line, octets: &[u8], low: &mut [u8], high: &mut [u8], page: &mu
         if used == 0 {
             break;
         }
+        whole += 1;
         at += used;
-        if !end.on {
-            break;
-        }
     }
     Taken {
         line: end,
+        records: whole,
         used: at,
     }
 }
 
-// The first record of a stretch; 0 octets are used where it is not whole.
+// The first record of a stretch; no octet is used where it is not whole or has a fault.
 fn record(line: Line, octets: &[u8], low: &mut [u8], high: &mut [u8], page: &mut [u8]) -> Taken
     requires { ⌜ line .filled < length (now page) ⌝ }
     ensures { λ r. ⌜ (r .line .filled < length (now (page .exit))) × (r .used ≤ length (now (octets .entry))) ⌝ }
 {
     if octets.len() < HEAD {
-        return Taken { line, used: 0 };
+        return not_taken(line);
     }
     let used = HEAD + number(octets[3], octets[4]) as usize;
     if octets.len() < used {
-        return Taken { line, used: 0 };
+        return not_taken(line);
     }
     let wait = number(octets[1], octets[2]) as usize;
     let after = carry_out(line, octets[0], wait, &octets[HEAD..used], low, high, page);
-    Taken { line: after, used }
+    if !after.on {
+        return not_taken(after);
+    }
+    Taken {
+        line: after,
+        records: 1,
+        used,
+    }
 }
 
 // A record, with its lane octet.
@@ -228,7 +301,7 @@ fn carry_out(
             let free = make_way(line, Lane::High, wait, low, high, page);
             load(free, Lane::High, packet, high, page)
         }
-        _ => no_lane(line, page),
+        _ => stop(line, Fault::NoLane, page),
     }
 }
 
@@ -246,9 +319,10 @@ fn load(line: Line, lane: Lane, packet: &[u8], area: &mut [u8], page: &[u8]) -> 
         LoadAnswer::Done => Line {
             state,
             filled: line.filled,
+            fault: Fault::Nothing,
             on: true,
         },
-        LoadAnswer::Refused(_) => refused(line, page),
+        LoadAnswer::Refused(_) => stop(line, Fault::Refused, page),
     }
 }
 
@@ -326,6 +400,7 @@ fn go_on(line: Line, most: usize, low: &[u8], high: &[u8], page: &mut [u8]) -> S
     let after = Line {
         state,
         filled: filled + octets,
+        fault: Fault::Nothing,
         on: true,
     };
     let next = turn(after, page);
@@ -357,57 +432,107 @@ fn write_out(line: Line, page: &[u8]) -> Line
     requires { ⌜ line .filled ≤ length (now page) ⌝ }
     ensures { λ r. ⌜ r .filled ≤ 0 ⌝ }
 {
-    let mut fresh = line;
-    fresh.filled = 0;
     let filled = line.filled;
     if !io::write_all(STDOUT_FILENO, &page[0..filled]) {
-        os::fail(b"send: standard output cannot be written; octets are missing");
-        fresh.on = false;
+        return ended(line, Fault::Unwritten);
     }
+    let mut fresh = line;
+    fresh.filled = 0;
     fresh
 }
 
-// ---- complaints
+// ---- faults
 
-// A message on standard error, behind all that was sent before; nothing more is sent.
-fn complain(line: Line, why: &[u8], page: &[u8]) -> Line
-    requires { ⌜ line .filled ≤ length (now page) ⌝ }
+// The line with nothing more to be sent.
+fn ended(line: Line, fault: Fault) -> Line
     ensures { λ r. ⌜ r .filled ≤ 0 ⌝ }
 {
-    let mut over = write_out(line, page);
-    os::fail(why);
-    over.on = false;
-    over
+    let state = line.state;
+    Line {
+        state,
+        filled: 0,
+        fault,
+        on: false,
+    }
 }
 
-fn unreadable(line: Line, page: &[u8]) -> Line
+// The line at a fault: what was sent before it is written, nothing more is sent.
+fn stop(line: Line, fault: Fault, page: &[u8]) -> Line
     requires { ⌜ line .filled ≤ length (now page) ⌝ }
     ensures { λ r. ⌜ r .filled ≤ 0 ⌝ }
 {
-    complain(line, b"send: standard input cannot be read further", page)
+    let written = write_out(line, page);
+    if !written.on {
+        return written;
+    }
+    ended(written, fault)
 }
 
-fn cut_short(line: Line, page: &[u8]) -> Line
-    requires { ⌜ line .filled ≤ length (now page) ⌝ }
-    ensures { λ r. ⌜ r .filled ≤ 0 ⌝ }
+fn not_taken(line: Line) -> Taken
+    ensures { λ r. ⌜ (r .line .filled ≤ line .filled) × (r .used ≤ 0) ⌝ }
 {
-    complain(line, b"send: the last record is cut short", page)
-}
-
-fn no_lane(line: Line, page: &[u8]) -> Line
-    requires { ⌜ line .filled ≤ length (now page) ⌝ }
-    ensures { λ r. ⌜ r .filled ≤ 0 ⌝ }
-{
-    complain(line, b"send: a record is for neither lane", page)
-}
-
-fn refused(line: Line, page: &[u8]) -> Line
-    requires { ⌜ line .filled ≤ length (now page) ⌝ }
-    ensures { λ r. ⌜ r .filled ≤ 0 ⌝ }
-{
-    complain(
+    Taken {
         line,
-        b"send: a packet has fewer than 2 or more than 2048 octets",
-        page,
-    )
+        records: 0,
+        used: 0,
+    }
+}
+
+// ---- messages
+
+fn say(words: &[u8]) {
+    io::write_all(STDERR_FILENO, words);
+}
+
+// How a message about a record begins. The first record is number 1, the first octet of the file is at place 0.
+fn complain(name: &[u8], records: u64, octets: u64) {
+    files::complain(b"send", name);
+    say(b"record ");
+    io::print_decimal(STDERR_FILENO, std::num::wrapping_add_u64(records, 1));
+    say(b", at octet ");
+    io::print_decimal(STDERR_FILENO, octets);
+    say(b": ");
+}
+
+// A message about what ended a line, if it was a fault. The answer says that it was none.
+fn told(outcome: Outcome, name: &[u8]) -> bool {
+    let fault = outcome.fault;
+    match fault {
+        Fault::Nothing => true,
+        Fault::Unread => {
+            complain(name, outcome.records, outcome.octets);
+            os::fail(b"the file cannot be read further");
+            false
+        }
+        Fault::CutShort => {
+            complain(name, outcome.records, outcome.octets);
+            say(b"it is cut short, the file ends within it\n");
+            false
+        }
+        Fault::NoLane => {
+            complain(name, outcome.records, outcome.octets);
+            say(b"its lane is neither L nor H\n");
+            false
+        }
+        Fault::Refused => {
+            complain(name, outcome.records, outcome.octets);
+            say(b"its packet has fewer than 2 or more than 2048 octets\n");
+            false
+        }
+        Fault::Unwritten => {
+            files::unwritten(b"send");
+            false
+        }
+    }
+}
+
+// A file without its first octet.
+fn no_settings(got: isize, name: &[u8]) -> bool {
+    if got < 0 {
+        files::fail(b"send", name, b"cannot be read");
+        return false;
+    }
+    files::complain(b"send", name);
+    say(b"it is empty, there is no settings octet\n");
+    false
 }

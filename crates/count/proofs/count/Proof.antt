@@ -1,0 +1,44 @@
+-- `count::count` is safe and ends.
+-- Assumes nothing.
+use Rattle.count.proofs.count.Statement.{statement}
+use Rattle.count.proofs.count.Tie as tie
+use borrow.Author.Needs.{needs}
+use lib.ListN.{length}
+use mathlib.Core.Path.{_≡_}
+
+abbrev Inv-loop : tie.InvT-loop
+Inv-loop fd name buffer₀ first₀ second₀ state₀ counts₀ got₀ reads₀ buffer first second state counts got reads =
+    (65536 ≡ length buffer) × (2051 ≡ length first) × (2051 ≡ length second)
+
+abbrev μ-loop : tie.MeasureT-loop
+μ-loop fd name buffer₀ first₀ second₀ state₀ counts₀ got₀ reads₀ buffer first second state counts got reads = reads
+
+pub count-spec : {M : Type 1} → statement M
+count-spec =
+    tie.close
+    (tie.spec
+    Inv-loop
+    μ-loop
+    (λ c κs. search needs)
+    (λ c κs. search needs)
+    (λ c κs. search needs)
+    (λ c. search needs)
+    (λ c κs. search needs)
+    (λ c κs. search needs)
+    (λ c. search needs)
+    (λ c. search needs)
+    (λ c. search needs)
+    (λ c κs. search needs)
+    (λ c. search needs)
+    (λ c. search needs)
+    (λ c. search needs)
+    (λ c. search needs)
+    (λ c κs. search needs)
+    (λ c. search needs)
+    (λ c κs. search needs)
+    (λ c. search needs)
+    (λ c. search needs)
+    (λ c. search needs)
+    (λ c κs. search needs)
+    (λ c. search needs)
+    (λ c. search needs))
