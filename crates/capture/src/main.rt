@@ -39,7 +39,7 @@ fn capture(number: usize, output: Output) -> Output {
     }
     let n = file.length;
     let after = print(fd, &name[0..n], output);
-    files::close(fd);
+    files::close(file);
     after
 }
 

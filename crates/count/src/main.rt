@@ -37,7 +37,7 @@ fn capture(number: usize, output: Output) -> Output {
     }
     let n = file.length;
     let counted = count(fd, &name[0..n]);
-    files::close(fd);
+    files::close(file);
     if !counted.read {
         return output;
     }

@@ -46,7 +46,7 @@ pub fn open(program: &[u8], number: usize, name: &mut [u8]) -> File
     }
     let n = os::arg(number, name);
     if os::errno() != 0 {
-        return nameless(program, number);
+        return too_long(program, name);
     }
     if is_dash(&name[..n]) {
         return STANDARD_INPUT;
@@ -66,9 +66,9 @@ fn is_dash(name: &[u8]) -> bool {
 }
 
 // Standard input stays open: it may be named twice, and has nothing left the second time.
-pub fn close(fd: i32) {
-    if fd != STDIN_FILENO {
-        libc::close(fd);
+pub fn close(file: File) {
+    if 0 < file.length {
+        libc::close(file.fd);
     }
 }
 
@@ -99,14 +99,16 @@ pub fn fail(program: &[u8], name: &[u8], what: &[u8]) {
     os::fail(what);
 }
 
-// An argument longer than any file's name.
-fn nameless(program: &[u8], number: usize) -> File
+// An argument longer than any file's name: it is known by its first octets.
+fn too_long(program: &[u8], name: &[u8]) -> File
     ensures { λ r. ⌜ r .length ≤ 0 ⌝ }
 {
     say(program);
-    say(b": argument ");
-    io::print_decimal(STDERR_FILENO, number as u64);
-    os::fail(b"");
+    say(b": ");
+    if 32 <= name.len() {
+        say(&name[0..32]);
+    }
+    os::fail(b"..: cannot be read");
     File { fd: -1, length: 0 }
 }
 

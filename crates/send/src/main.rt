@@ -11,22 +11,26 @@ use link::sender::Sender;
 // Octets of a record before its packet: the lane, and two numbers of two octets.
 const HEAD: usize = 5;
 
-// What ended a line before its time.
+// The sender, and how many octets on the page are still to be written. on: there was no fault, and all was written.
+struct Line {
+    state: Sender,
+    filled: usize,
+    on: bool,
+}
+
+// What is wrong with a file of records.
 enum Fault {
     Nothing,
     Unread,
     CutShort,
     NoLane,
     Refused,
-    Unwritten,
 }
 
-// The sender, and how many octets on the page are still to be written. on: the line is not at its end, and there was no fault.
-struct Line {
-    state: Sender,
-    filled: usize,
+// The line after a record's packet was loaded.
+struct Carried {
+    line: Line,
     fault: Fault,
-    on: bool,
 }
 
 // A step along the line, and how many octets it put on the page.
@@ -38,6 +42,7 @@ struct Step {
 // The line after some records, how many these were, and how many octets of the input they took.
 struct Taken {
     line: Line,
+    fault: Fault,
     records: usize,
     used: usize,
 }
@@ -48,19 +53,23 @@ struct Came {
     octets: usize,
 }
 
-// The line between reads, the records that a read made whole, and how many octets of one that is not whole stand at the input's start.
+// The line between reads, the records that a read made whole, and how many octets of one that is not whole stand at the input's start. over: there is
+// nothing more to read.
 struct Rest {
     line: Line,
+    fault: Fault,
     records: usize,
     used: usize,
     kept: usize,
+    over: bool,
 }
 
-// A line at its end, and where in the file that is: behind so many records and so many octets.
+// A line at its end, and where in the file that is: behind so many records and so many octets. written: all that was sent is.
 struct Outcome {
     fault: Fault,
     records: u64,
     octets: u64,
+    written: bool,
 }
 
 fn main() {
@@ -89,7 +98,7 @@ fn file(number: usize) -> bool {
         return no_settings(got, &name[0..n]);
     }
     let outcome = all(fd, settings[0]);
-    files::close(fd);
+    files::close(file);
     told(outcome, &name[0..n])
 }
 
@@ -102,29 +111,30 @@ fn all(fd: i32, settings: u8) -> Outcome {
     let mut line = Line {
         state: link::sender::open(settings),
         filled: 0,
-        fault: Fault::Nothing,
         on: true,
     };
     let mut kept = 0usize;
     let mut records = 0u64;
     let mut octets = 1u64;
+    let mut fault = Fault::Nothing;
     let mut reads = u64::MAX;
     while reads > 0 {
         let rest = read(fd, line, kept, &mut input, &mut low, &mut high, &mut page);
         line = rest.line;
+        fault = rest.fault;
         kept = rest.kept;
         records = std::num::wrapping_add_u64(records, rest.records as u64);
         octets = std::num::wrapping_add_u64(octets, rest.used as u64);
-        if !line.on {
+        if rest.over {
             break;
         }
         reads -= 1;
     }
-    let fault = line.fault;
     Outcome {
         fault,
         records,
         octets,
+        written: line.on,
     }
 }
 
@@ -158,11 +168,15 @@ fn read(
     let came = more(fd, kept, input);
     if came.got <= 0 {
         let over = finish(line, came.got, kept, low, high, page);
+        let after = over.line;
+        let fault = over.fault;
         return Rest {
-            line: over,
+            line: after,
+            fault,
             records: 0,
             used: 0,
             kept: 0,
+            over: true,
         };
     }
     take(line, came.octets, input, low, high, page)
@@ -191,19 +205,22 @@ fn take(
 {
     let taken = records(line, &input[0..n], low, high, page);
     let after = taken.line;
+    let fault = taken.fault;
     let kept = keep(taken.used, n, input);
     Rest {
         line: after,
+        fault,
         records: taken.records,
         used: taken.used,
         kept,
+        over: !after.on,
     }
 }
 
 // The end of the input: what the sender holds is sent.
-fn finish(line: Line, got: isize, kept: usize, low: &[u8], high: &[u8], page: &mut [u8]) -> Line
+fn finish(line: Line, got: isize, kept: usize, low: &[u8], high: &[u8], page: &mut [u8]) -> Carried
     requires { ⌜ line .filled < length (now page) ⌝ }
-    ensures { λ r. ⌜ r .filled < length (now (page .exit)) ⌝ }
+    ensures { λ r. ⌜ r .line .filled < length (now (page .exit)) ⌝ }
 {
     if got < 0 {
         return stop(line, Fault::Unread, page);
@@ -212,9 +229,11 @@ fn finish(line: Line, got: isize, kept: usize, low: &[u8], high: &[u8], page: &m
         return stop(line, Fault::CutShort, page);
     }
     let idle = send(line, 0xffff_ffff_ffff_ffff, low, high, page);
-    let mut over = write_out(idle, page);
-    over.on = false;
-    over
+    let written = write_out(idle, page);
+    Carried {
+        line: written,
+        fault: Fault::Nothing,
+    }
 }
 
 // The octets from a place on are moved to the input's start.
@@ -236,11 +255,13 @@ fn records(line: Line, octets: &[u8], low: &mut [u8], high: &mut [u8], page: &mu
     ensures { λ r. ⌜ (r .line .filled < length (now (page .exit))) × (r .used ≤ length (now (octets .entry))) ⌝ }
 {
     let mut end = line;
+    let mut fault = Fault::Nothing;
     let mut whole = 0usize;
     let mut at = 0usize;
     while at < octets.len() {
         let taken = record(end, &octets[at..], low, high, page);
         end = taken.line;
+        fault = taken.fault;
         let used = taken.used;
         if used == 0 {
             break;
@@ -250,6 +271,7 @@ fn records(line: Line, octets: &[u8], low: &mut [u8], high: &mut [u8], page: &mu
     }
     Taken {
         line: end,
+        fault,
         records: whole,
         used: at,
     }
@@ -261,19 +283,22 @@ fn record(line: Line, octets: &[u8], low: &mut [u8], high: &mut [u8], page: &mut
     ensures { λ r. ⌜ (r .line .filled < length (now (page .exit))) × (r .used ≤ length (now (octets .entry))) ⌝ }
 {
     if octets.len() < HEAD {
-        return not_taken(line);
+        return not_taken(line, Fault::Nothing);
     }
     let used = HEAD + number(octets[3], octets[4]) as usize;
     if octets.len() < used {
-        return not_taken(line);
+        return not_taken(line, Fault::Nothing);
     }
     let wait = number(octets[1], octets[2]) as usize;
-    let after = carry_out(line, octets[0], wait, &octets[HEAD..used], low, high, page);
+    let carried = carry_out(line, octets[0], wait, &octets[HEAD..used], low, high, page);
+    let after = carried.line;
+    let fault = carried.fault;
     if !after.on {
-        return not_taken(after);
+        return not_taken(after, fault);
     }
     Taken {
         line: after,
+        fault,
         records: 1,
         used,
     }
@@ -288,9 +313,9 @@ fn carry_out(
     low: &mut [u8],
     high: &mut [u8],
     page: &mut [u8],
-) -> Line
+) -> Carried
     requires { ⌜ line .filled < length (now page) ⌝ }
-    ensures { λ r. ⌜ r .filled < length (now (page .exit)) ⌝ }
+    ensures { λ r. ⌜ r .line .filled < length (now (page .exit)) ⌝ }
 {
     match lane {
         b'L' => {
@@ -305,23 +330,31 @@ fn carry_out(
     }
 }
 
-fn load(line: Line, lane: Lane, packet: &[u8], area: &mut [u8], page: &[u8]) -> Line
+fn load(line: Line, lane: Lane, packet: &[u8], area: &mut [u8], page: &[u8]) -> Carried
     requires { ⌜ line .filled < length (now page) ⌝ }
-    ensures { λ r. ⌜ r .filled < length (now (page .entry)) ⌝ }
+    ensures { λ r. ⌜ r .line .filled < length (now (page .entry)) ⌝ }
 {
     if !line.on {
-        return line;
+        return Carried {
+            line,
+            fault: Fault::Nothing,
+        };
     }
     let loaded = line.state.load(lane, packet, area);
     let state = loaded.state;
     let answer = loaded.answer;
     match answer {
-        LoadAnswer::Done => Line {
-            state,
-            filled: line.filled,
-            fault: Fault::Nothing,
-            on: true,
-        },
+        LoadAnswer::Done => {
+            let after = Line {
+                state,
+                filled: line.filled,
+                on: true,
+            };
+            Carried {
+                line: after,
+                fault: Fault::Nothing,
+            }
+        }
         LoadAnswer::Refused(_) => stop(line, Fault::Refused, page),
     }
 }
@@ -400,7 +433,6 @@ fn go_on(line: Line, most: usize, low: &[u8], high: &[u8], page: &mut [u8]) -> S
     let after = Line {
         state,
         filled: filled + octets,
-        fault: Fault::Nothing,
         on: true,
     };
     let next = turn(after, page);
@@ -427,52 +459,37 @@ fn least(a: usize, b: usize) -> usize
     b
 }
 
-// The page is written to standard output.
+// The page is written to standard output, or complained of.
 fn write_out(line: Line, page: &[u8]) -> Line
     requires { ⌜ line .filled ≤ length (now page) ⌝ }
     ensures { λ r. ⌜ r .filled ≤ 0 ⌝ }
 {
-    let filled = line.filled;
-    if !io::write_all(STDOUT_FILENO, &page[0..filled]) {
-        return ended(line, Fault::Unwritten);
-    }
     let mut fresh = line;
     fresh.filled = 0;
+    let filled = line.filled;
+    if !io::write_all(STDOUT_FILENO, &page[0..filled]) {
+        files::unwritten(b"send");
+        fresh.on = false;
+    }
     fresh
 }
 
-// ---- faults
-
-// The line with nothing more to be sent.
-fn ended(line: Line, fault: Fault) -> Line
-    ensures { λ r. ⌜ r .filled ≤ 0 ⌝ }
-{
-    let state = line.state;
-    Line {
-        state,
-        filled: 0,
-        fault,
-        on: false,
-    }
-}
-
-// The line at a fault: what was sent before it is written, nothing more is sent.
-fn stop(line: Line, fault: Fault, page: &[u8]) -> Line
+// The line at a fault: what was sent before it is written, and nothing more is sent.
+fn stop(line: Line, fault: Fault, page: &[u8]) -> Carried
     requires { ⌜ line .filled ≤ length (now page) ⌝ }
-    ensures { λ r. ⌜ r .filled ≤ 0 ⌝ }
+    ensures { λ r. ⌜ r .line .filled ≤ 0 ⌝ }
 {
-    let written = write_out(line, page);
-    if !written.on {
-        return written;
-    }
-    ended(written, fault)
+    let mut over = write_out(line, page);
+    over.on = false;
+    Carried { line: over, fault }
 }
 
-fn not_taken(line: Line) -> Taken
+fn not_taken(line: Line, fault: Fault) -> Taken
     ensures { λ r. ⌜ (r .line .filled ≤ line .filled) × (r .used ≤ 0) ⌝ }
 {
     Taken {
         line,
+        fault,
         records: 0,
         used: 0,
     }
@@ -494,11 +511,11 @@ fn complain(name: &[u8], records: u64, octets: u64) {
     say(b": ");
 }
 
-// A message about what ended a line, if it was a fault. The answer says that it was none.
+// A message about a fault. The answer says that all was sent and written.
 fn told(outcome: Outcome, name: &[u8]) -> bool {
     let fault = outcome.fault;
     match fault {
-        Fault::Nothing => true,
+        Fault::Nothing => outcome.written,
         Fault::Unread => {
             complain(name, outcome.records, outcome.octets);
             os::fail(b"the file cannot be read further");
@@ -517,10 +534,6 @@ fn told(outcome: Outcome, name: &[u8]) -> bool {
         Fault::Refused => {
             complain(name, outcome.records, outcome.octets);
             say(b"its packet has fewer than 2 or more than 2048 octets\n");
-            false
-        }
-        Fault::Unwritten => {
-            files::unwritten(b"send");
             false
         }
     }

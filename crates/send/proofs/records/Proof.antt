@@ -9,10 +9,10 @@ use Rattle.send.proofs.records.Statement.{statement}
 use Rattle.send.proofs.records.Tie as tie
 
 abbrev Inv-loop : tie.InvT-loop
-Inv-loop octets low₀ high₀ page₀ end₀ whole₀ at₀ low high page end whole at = (whole ≤ at) × (at ≤ length octets) × (end .filled < length page) × (length low ≡ length low₀) × (length high ≡ length high₀) × (length page ≡ length page₀)
+Inv-loop octets low₀ high₀ page₀ end₀ fault₀ whole₀ at₀ low high page end fault whole at = (whole ≤ at) × (at ≤ length octets) × (end .filled < length page) × (length low ≡ length low₀) × (length high ≡ length high₀) × (length page ≡ length page₀)
 
 abbrev μ-loop : tie.MeasureT-loop
-μ-loop octets low₀ high₀ page₀ end₀ whole₀ at₀ low high page end whole at = length octets - at
+μ-loop octets low₀ high₀ page₀ end₀ fault₀ whole₀ at₀ low high page end fault whole at = length octets - at
 
 add-at : tie.Need-add-at Inv-loop μ-loop
 add-at c =
