@@ -37,7 +37,7 @@ fn capture(number: usize, output: Output) -> Output {
     if fd < 0 {
         return output;
     }
-    let n = file.length;
+    let n = file.named;
     let after = print(fd, &name[0..n], output);
     files::close(file);
     after

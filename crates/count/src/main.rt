@@ -35,7 +35,7 @@ fn capture(number: usize, output: Output) -> Output {
     if fd < 0 {
         return output;
     }
-    let n = file.length;
+    let n = file.named;
     let counted = count(fd, &name[0..n]);
     files::close(file);
     if !counted.read {

@@ -8,11 +8,11 @@ use libc::STDERR_FILENO;
 use libc::STDIN_FILENO;
 use libc::STDOUT_FILENO;
 
-// A file to read: its descriptor, below 0 where it could not be opened, and the length of its name, which stands at the start of the area that was
-// lent for it. Standard input has a name of no octets.
+// A file to read: its descriptor, below 0 where it could not be opened; and how many octets, from the start of the area that was lent for it, are its
+// name. Standard input has a name of none.
 pub struct File {
     pub fd: i32,
-    pub length: usize,
+    pub named: usize,
 }
 
 // What a program prints, between two files. headings: each file's part is headed by its name; begun: there is a part already; on: all was written.
@@ -34,12 +34,12 @@ pub fn end() -> usize
 
 const STANDARD_INPUT: File = File {
     fd: STDIN_FILENO,
-    length: 0,
+    named: 0,
 };
 
 // Opens the file of an argument, and puts its name into the area. One that cannot be opened is complained of.
 pub fn open(program: &[u8], number: usize, name: &mut [u8]) -> File
-    ensures { λ r. ⌜ r .length ≤ length (now (name .exit)) ⌝ }
+    ensures { λ r. ⌜ r .named ≤ length (now (name .exit)) ⌝ }
 {
     if os::arg_count() < 2 {
         return STANDARD_INPUT;
@@ -55,7 +55,7 @@ pub fn open(program: &[u8], number: usize, name: &mut [u8]) -> File
     if fd < 0 {
         unopened(program, &name[..n]);
     }
-    File { fd, length: n }
+    File { fd, named: n }
 }
 
 fn is_dash(name: &[u8]) -> bool {
@@ -67,7 +67,7 @@ fn is_dash(name: &[u8]) -> bool {
 
 // Standard input stays open: it may be named twice, and has nothing left the second time.
 pub fn close(file: File) {
-    if 0 < file.length {
+    if 0 < file.named {
         libc::close(file.fd);
     }
 }
@@ -101,7 +101,7 @@ pub fn fail(program: &[u8], name: &[u8], what: &[u8]) {
 
 // An argument longer than any file's name: it is known by its first octets.
 fn too_long(program: &[u8], name: &[u8]) -> File
-    ensures { λ r. ⌜ r .length ≤ 0 ⌝ }
+    ensures { λ r. ⌜ r .named ≤ 0 ⌝ }
 {
     say(program);
     say(b": ");
@@ -109,7 +109,7 @@ fn too_long(program: &[u8], name: &[u8]) -> File
         say(&name[0..32]);
     }
     os::fail(b"..: cannot be read");
-    File { fd: -1, length: 0 }
+    File { fd: -1, named: 0 }
 }
 
 fn unopened(program: &[u8], name: &[u8]) {

@@ -27,7 +27,7 @@ enum Fault {
     Refused,
 }
 
-// The line after a record's packet was loaded.
+// The line after a record, or at the end of the file, and what was wrong there.
 struct Carried {
     line: Line,
     fault: Fault,
@@ -91,7 +91,7 @@ fn file(number: usize) -> bool {
     if fd < 0 {
         return false;
     }
-    let n = file.length;
+    let n = file.named;
     let mut settings = [0u8; 1];
     let got = libc::read(fd, &mut settings);
     if got <= 0 {
