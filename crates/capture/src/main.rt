@@ -2,30 +2,17 @@
 // is called with is a capture of its own. Both settings are on. A frame that is not closed prints nothing.
 ghost use Prim.Native.Nat.{_≤_};
 ghost use lib.ListN.{length};
-ghost use Rattle.transcript.specs.Transcript.{longest};
+ghost use Rattle.transcript.specs.Transcript.{longestLine};
 use files::Output;
 use libc::STDOUT_FILENO;
 use link::receiver::Receiver;
 
-// ZXE and PRE.
-const SETTINGS: u8 = 0x03;
-
-// The receiver between reads. on: what was read is written.
-struct Turn {
-    state: Receiver,
-    on: bool,
-}
-
 fn main() {
-    let end = files::end();
     let mut output = files::nothing_printed();
-    let mut number = 1usize;
-    while number < end {
-        output = capture(number, output);
-        if !output.on {
-            return;
+    for number in 1..files::end() {
+        if output.on {
+            output = capture(number, output);
         }
-        number += 1;
     }
 }
 
@@ -58,26 +45,32 @@ fn print(fd: i32, name: &[u8], output: Output) -> Output {
     let mut page = io::large_buffer();
     let mut first = [0u8; 2051];
     let mut second = [0u8; 2051];
-    let mut state = link::receiver::open(SETTINGS);
+    let mut state = link::receiver::open(transcript::SETTINGS);
     let mut reads = u64::MAX;
     while reads > 0 {
         if got <= 0 {
             break;
         }
         let n = io::count(got, &buffer);
-        let turn = write(state, &buffer[..n], &mut first, &mut second, &mut page);
-        if !turn.on {
+        let progress = write(state, &buffer[..n], &mut first, &mut second, &mut page);
+        if !progress.on {
             after.on = false;
             return after;
         }
-        state = turn.state;
+        state = progress.state;
         got = libc::read(fd, &mut buffer);
         reads -= 1;
     }
     if got < 0 {
-        cut_off(name);
+        ended_early(name);
     }
     after
+}
+
+// The receiver between reads. on: what was read is written.
+struct Progress {
+    state: Receiver,
+    on: bool,
 }
 
 // The lines of a stretch of octets, page after page.
@@ -87,8 +80,8 @@ fn write(
     first: &mut [u8],
     second: &mut [u8],
     page: &mut [u8],
-) -> Turn
-    requires { ⌜ longest ≤ length (now page) ⌝ }
+) -> Progress
+    requires { ⌜ longestLine ≤ length (now page) ⌝ }
 {
     let mut state = start;
     let mut at = 0usize;
@@ -99,17 +92,17 @@ fn write(
         let filled = printed.filled;
         if !io::write_all(STDOUT_FILENO, &page[0..filled]) {
             files::unwritten(b"capture");
-            return Turn { state, on: false };
+            return Progress { state, on: false };
         }
     }
-    Turn { state, on: true }
+    Progress { state, on: true }
 }
 
 fn unread(name: &[u8]) {
     files::fail(b"capture", name, b"cannot be read");
 }
 
-fn cut_off(name: &[u8]) {
+fn ended_early(name: &[u8]) {
     files::fail(
         b"capture",
         name,

@@ -1,5 +1,4 @@
 -- Lists of blocks: what they decode to, what they are on the line, and that a list is read back from that.
--- Assumes nothing.
 use mathlib.Core.Path.{_≡_, refl, ap, sym, _∙_}
 use mathlib.Core.Bool.{Bool}
 use mathlib.Core.Logic.{⊎-elim}
@@ -10,38 +9,38 @@ use native.Mathlib.Omega.{arith}
 use borrow.Author.Tests.{le-leb}
 use lib.ListN.{length, replicate, length-append, length-map}
 use lib.Seq.{take-append-seam, drop-append-seam}
-use Rattle.cobs.specs.CodeBlocks.{flag, toLine, fromLine, Block, Allowed, AllAllowed, zerosAfter, decoded, onLine, parse, readBlocks}
+use Rattle.cobs.specs.CodeBlocks.{flag, toLine, fromLine, Block, Allowed, AllAllowed, zerosAfter, decodedOctets, lineOctets, parse, readBlocks}
 use Rattle.cobs.proofs.Table.{read-row, numbers}
 use Rattle.cobs.proofs.Exchange.{no-flag, turned-back}
 
 -- ---- lists of blocks
 
-pub decoded-nil : decoded [] ≡ []
-unfolding decoded flatMap
+pub decoded-nil : decodedOctets [] ≡ []
+unfolding decodedOctets flatMap
 decoded-nil = refl
 
-pub decoded-cons : (b : Block) (bs : List Block) → decoded (b ∷ bs) ≡ b .octets ++ replicate (zerosAfter b) 0 ++ decoded bs
-unfolding decoded flatMap
+pub decoded-cons : (b : Block) (bs : List Block) → decodedOctets (b ∷ bs) ≡ b .dataOctets ++ replicate (zerosAfter b) 0 ++ decodedOctets bs
+unfolding decodedOctets flatMap
 decoded-cons b bs = refl
 
-pub on-line-nil : onLine [] ≡ []
-unfolding onLine flatMap
+pub on-line-nil : lineOctets [] ≡ []
+unfolding lineOctets flatMap
 on-line-nil = refl
 
-pub on-line-cons : (b : Block) (bs : List Block) → onLine (b ∷ bs) ≡ toLine (b .code) ∷ (map toLine (b .octets) ++ onLine bs)
-unfolding onLine flatMap
+pub on-line-cons : (b : Block) (bs : List Block) → lineOctets (b ∷ bs) ≡ toLine (b .code) ∷ (map toLine (b .dataOctets) ++ lineOctets bs)
+unfolding lineOctets flatMap
 on-line-cons b bs = refl
 
-pub line-length : (b : Block) (bs : List Block) → length (onLine (b ∷ bs)) ≡ 1 + length (b .octets) + length (onLine bs)
-line-length b bs = omega (arith, ap length (on-line-cons b bs), length-append (map toLine (b .octets)) (onLine bs), length-map (b .octets) toLine)
+pub line-length : (b : Block) (bs : List Block) → length (lineOctets (b ∷ bs)) ≡ 1 + length (b .dataOctets) + length (lineOctets bs)
+line-length b bs = omega (arith, ap length (on-line-cons b bs), length-append (map toLine (b .dataOctets)) (lineOctets bs), length-map (b .dataOctets) toLine)
 
 -- no flag is among them
-pub line-flagless : (bs : List Block) → List·Memᴰ flag (onLine bs) → ⊥
-unfolding onLine flatMap
+pub line-flagless : (bs : List Block) → List·Memᴰ flag (lineOctets bs) → ⊥
+unfolding lineOctets flatMap
 line-flagless [] m = List·Memᴰ·not-nil m
 line-flagless (b ∷ bs) m =
-    ⊎-elim (λ h. let w = Memᴰ·of-map toLine (b .code ∷ b .octets) h in no-flag (w .0) (w .2)) (line-flagless bs)
-    (List·Memᴰ·append-cases (map toLine (b .code ∷ b .octets)) m)
+    ⊎-elim (λ h. let w = Memᴰ·of-map toLine (b .code ∷ b .dataOctets) h in no-flag (w .0) (w .2)) (line-flagless bs)
+    (List·Memᴰ·append-cases (map toLine (b .code ∷ b .dataOctets)) m)
 
 -- ---- reading them back
 
@@ -52,43 +51,43 @@ map-back (x ∷ l) h = rw (turned-back x (λ e. h (List·Memᴰ·head (sym e))),
 
 -- the octets of blocks, not yet exchanged
 turned : (zxe : Bool) (b : Block) (bs : List Block) → Allowed zxe b
-    → map fromLine (onLine (b ∷ bs)) ≡ b .code ∷ (b .octets ++ map fromLine (onLine bs))
+    → map fromLine (lineOctets (b ∷ bs)) ≡ b .code ∷ (b .dataOctets ++ map fromLine (lineOctets bs))
 turned zxe b bs a =
-    let k = numbers (read-row zxe (b .code) _ _ (a .agreed)) .code-some in
+    let k = numbers (read-row zxe (b .code) _ _ (a .row)) .code-some in
     rw (
       on-line-cons b bs,
       turned-back (b .code) (λ e. omega arith),
-      map-append fromLine (map toLine (b .octets)) (onLine bs),
-      map-back (b .octets) (a .nonzero),
+      map-append fromLine (map toLine (b .dataOctets)) (lineOctets bs),
+      map-back (b .dataOctets) (a .nonzero),
     )
 
 module _ (zxe : Bool) where
-  parse-line : (n : ℕ) (bs : List Block) → AllAllowed zxe bs → length bs < n → parse zxe n (map fromLine (onLine bs)) ≡ some bs
+  parse-line : (n : ℕ) (bs : List Block) → AllAllowed zxe bs → length bs < n → parse zxe n (map fromLine (lineOctets bs)) ≡ some bs
   unfolding parse
   parse-line zero bs all h = absurd (omega arith)
   parse-line (suc n) [] all h = rw on-line-nil
   parse-line (suc n) (b ∷ bs) all h =
       let a = all b (List·Memᴰ·head refl) in
-      let rest = map fromLine (onLine bs) in
+      let rest = map fromLine (lineOctets bs) in
       let ih : parse zxe n rest ≡ some bs = parse-line n bs (λ x m. all x (List·Memᴰ·tail m)) (omega arith) in
       rw (
         turned zxe b bs a,
-        a .agreed,
-        le-leb (length (b .octets)) (length (b .octets ++ rest)) (omega (arith, length-append (b .octets) rest)),
-        drop-append-seam (b .octets) rest,
+        a .row,
+        le-leb (length (b .dataOctets)) (length (b .dataOctets ++ rest)) (omega (arith, length-append (b .dataOctets) rest)),
+        drop-append-seam (b .dataOctets) rest,
         ih,
-        take-append-seam (b .octets) rest,
+        take-append-seam (b .dataOctets) rest,
       )
 
-  fewer : (bs : List Block) → length bs ≤ length (onLine bs)
+  fewer : (bs : List Block) → length bs ≤ length (lineOctets bs)
   fewer [] = omega arith
   fewer (b ∷ bs) = omega (arith, fewer bs, line-length b bs)
 
   -- every list of allowed blocks is read back from its octets
-  pub reads-back : (bs : List Block) → AllAllowed zxe bs → readBlocks zxe (onLine bs) ≡ some bs
+  pub reads-back : (bs : List Block) → AllAllowed zxe bs → readBlocks zxe (lineOctets bs) ≡ some bs
   unfolding readBlocks
-  reads-back bs all = parse-line (length (onLine bs) + 1) bs all (omega (arith, fewer bs))
+  reads-back bs all = parse-line (length (lineOctets bs) + 1) bs all (omega (arith, fewer bs))
 
   -- so no two of them have the same
-  pub one-reading : (bs cs : List Block) → AllAllowed zxe bs → AllAllowed zxe cs → onLine bs ≡ onLine cs → bs ≡ cs
+  pub one-reading : (bs cs : List Block) → AllAllowed zxe bs → AllAllowed zxe cs → lineOctets bs ≡ lineOctets cs → bs ≡ cs
   one-reading bs cs all also e = Option·some-injective bs cs (sym (reads-back bs all) ∙ (ap (readBlocks zxe) e ∙ reads-back cs also))

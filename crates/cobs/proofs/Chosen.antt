@@ -1,5 +1,4 @@
 -- What the sender's choice gives, at a rest of D.
--- Assumes nothing.
 use mathlib.Core.Path.{_≡_, ap, sym, _∙_}
 use mathlib.Core.Bool.{Bool, true, _&&_}
 use mathlib.Core.List.{List}
@@ -9,7 +8,7 @@ use borrow.Author.Tests.{leb-true, eqb-true, eqb-false}
 use lib.Dec.{leb, eqb}
 use lib.ListN.{length, drop, getD, length-drop}
 use lib.Seq.{getD-drop}
-use Rattle.cobs.specs.CodeBlocks.{Choice, withPhantom, zeros, nonzeros, choice, isZero, nonZero}
+use Rattle.cobs.specs.CodeBlocks.{Choice, withPhantom, leadingZeros, leadingNonzeros, choice, isZero, isNonzero}
 use Rattle.cobs.proofs.Tests.{branch, and-left, and-right}
 use Rattle.cobs.proofs.Leading.{EndsInZero, at-most, within, zeros-at, nonzeros-at, nonzeros-end, nonzeros-inside}
 use Rattle.cobs.proofs.Phantom.{long, ends, ends-drop}
@@ -18,21 +17,21 @@ use Rattle.cobs.proofs.Table.{Row, plain-row, full-row, run-row, pair-r
 -- A block that stands at the head of a rest of D: its code is agreed, its data octets stand next and none is zero, then its zeros stand.
 -- The data octets are not all of the rest, since the phantom is none of them.
 pub record Stands (zxe : Bool) (rest : List ℕ) (c : Choice) : Type 0 where
-  pub row : Row zxe (c .code) (c .octets) (c .zeros)
-  pub nonzero : (i : ℕ) → i < c .octets → getD rest i 0 ≡ 0 → ⊥
-  pub zero : (i : ℕ) → c .octets ≤ i → i < c .octets + c .zeros → getD rest i 0 ≡ 0
-  pub inside : c .octets + c .zeros ≤ length rest
-  pub more : c .octets < length rest
+  pub row : Row zxe (c .code) (c .nonzeros) (c .zeros)
+  pub nonzero : (i : ℕ) → i < c .nonzeros → getD rest i 0 ≡ 0 → ⊥
+  pub zero : (i : ℕ) → c .nonzeros ≤ i → i < c .nonzeros + c .zeros → getD rest i 0 ≡ 0
+  pub inside : c .nonzeros + c .zeros ≤ length rest
+  pub more : c .nonzeros < length rest
 
 module _ (zxe : Bool) (rest : List ℕ) (some : 0 < length rest) (end : EndsInZero rest) where
   pub chosen : Stands zxe rest (choice zxe rest)
   unfolding choice
   chosen =
-      let z = zeros 15 rest in
-      let k = nonzeros 207 rest in
-      let y = zeros 2 (drop k rest) in
+      let z = leadingZeros 15 rest in
+      let k = leadingNonzeros 207 rest in
+      let y = leadingZeros 2 (drop k rest) in
       let kin : k < length rest = nonzeros-inside 207 rest some end in
-      let kmost : k ≤ 207 = at-most nonZero 207 rest in
+      let kmost : k ≤ 207 = at-most isNonzero 207 rest in
       branch (Stands zxe rest) (zxe && leb 3 z)
       (λ e.
       record {

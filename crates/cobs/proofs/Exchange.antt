@@ -1,5 +1,4 @@
 -- 7E and 00 exchanged: nothing on the line within a frame is a flag, and turning it back gives the octet.
--- Assumes nothing.
 use mathlib.Core.Path.{_≡_, refl, sym}
 use Prim.Native.Nat.{ℕ}
 use borrow.Author.Tests.{eqb-true, eqb-false, ne-eqb}

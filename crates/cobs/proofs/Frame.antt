@@ -1,5 +1,4 @@
 -- The blocks of a whole frame: they are allowed and decode to D; what is sent of them has no flag, reads back, and is not long.
--- Assumes nothing.
 use mathlib.Core.Path.{_≡_, refl, ap, sym, _∙_}
 use mathlib.Core.Bool.{Bool}
 use mathlib.Core.Logic.{⊎-elim}
@@ -11,7 +10,7 @@ use borrow.Author.Tests.{eqb-true, eqb-false}
 use lib.Dec.{eqb}
 use lib.ListN.{length, take, drop, getD, replicate, length-drop, length-replicate, getD-replicate, take-append-drop, drop-of-length-le}
 use lib.Seq.{length-take-le, take-add, getD-take, getD-drop, drop-drop, ext-getD}
-use Rattle.cobs.specs.CodeBlocks.{withPhantom, flag, Choice, choice, Block, zerosIn, zerosAfter, Allowed, AllAllowed, decoded, onLine, covered, blockAt, cut, blocks, sent, readBlocks}
+use Rattle.cobs.specs.CodeBlocks.{withPhantom, flag, Choice, choice, Block, zerosIn, zerosAfter, Allowed, AllAllowed, decodedOctets, lineOctets, coveredBy, blockAt, blocksFrom, blocks, uninterrupted, readBlocks}
 use Rattle.cobs.proofs.Tests.{decide}
 use Rattle.cobs.proofs.Leading.{EndsInZero}
 use Rattle.cobs.proofs.Phantom.{long, ends, ends-drop}
@@ -44,33 +43,33 @@ zeros-from l from n fits all =
 -- ---- a block that stands at the head of a rest of D
 
 module _ (zxe : Bool) (rest : List ℕ) (c : Choice) (f : Stands zxe rest c) where
-  data-long : length (take (c .octets) rest) ≡ c .octets
-  data-long = length-take-le (c .octets) rest (omega (arith, f .inside))
+  data-long : length (take (c .nonzeros) rest) ≡ c .nonzeros
+  data-long = length-take-le (c .nonzeros) rest (omega (arith, f .inside))
 
   zeros-is : zerosAfter (blockAt rest c) ≡ c .zeros
-  zeros-is = ap zerosIn (agreed-table zxe (c .code) (c .octets) (c .zeros) (row-read (f .row)))
+  zeros-is = ap zerosIn (agreed-table zxe (c .code) (c .nonzeros) (c .zeros) (row-read (f .row)))
 
   pub block-allowed : Allowed zxe (blockAt rest c)
   block-allowed =
       record {
-        agreed = rw (data-long, zeros-is) (row-read (f .row));
+        row = rw (data-long, zeros-is) (row-read (f .row));
         nonzero =
-            no-zero (take (c .octets) rest)
+            no-zero (take (c .nonzeros) rest)
             (λ i h q.
-            let k : i < c .octets = omega (arith, data-long) in
-            f .nonzero i k (sym (getD-take (c .octets) rest i 0 k) ∙ q));
+            let k : i < c .nonzeros = omega (arith, data-long) in
+            f .nonzero i k (sym (getD-take (c .nonzeros) rest i 0 k) ∙ q));
       }
 
   -- its zeros stand behind its data octets
-  pub zeros-stand : take (c .zeros) (drop (c .octets) rest) ≡ replicate (c .zeros) 0
-  zeros-stand = zeros-from rest (c .octets) (c .zeros) (f .inside) (λ i k. f .zero (c .octets + i) (omega arith) (omega arith))
+  pub zeros-stand : take (c .zeros) (drop (c .nonzeros) rest) ≡ replicate (c .zeros) 0
+  zeros-stand = zeros-from rest (c .nonzeros) (c .zeros) (f .inside) (λ i k. f .zero (c .nonzeros + i) (omega arith) (omega arith))
 
   -- the rest is what the block stands for and what is behind it
-  pub block-covers : take (c .octets) rest ++ replicate (zerosAfter (blockAt rest c)) 0 ++ drop (covered c) rest ≡ rest
-  block-covers = rw (zeros-is, ← zeros-stand, ← (take-add (c .octets) (c .zeros) rest)) (take-append-drop (covered c) rest)
+  pub block-covers : take (c .nonzeros) rest ++ replicate (zerosAfter (blockAt rest c)) 0 ++ drop (coveredBy c) rest ≡ rest
+  block-covers = rw (zeros-is, ← zeros-stand, ← (take-add (c .nonzeros) (c .zeros) rest)) (take-append-drop (coveredBy c) rest)
 
   -- a block with a zero takes no more octets than it covers, and D0 one more
-  pub block-cost : c .octets + 1 + longest (length rest - covered c) ≤ longest (length rest)
+  pub block-cost : c .nonzeros + 1 + longest (length rest - coveredBy c) ≤ longest (length rest)
   unfolding longest
   block-cost =
       decide (eqb (c .zeros) 0) (λ e. let full = numbers (f .row) .none-full (eqb-true (c .zeros) 0 e) in omega (arith, full .1, f .more))
@@ -79,61 +78,61 @@ module _ (zxe : Bool) (rest : List ℕ) (c : Choice) (f : Stands zxe rest c) whe
 -- ---- the blocks of a rest of D
 
 module _ (zxe : Bool) where
-  cut-none : (n : ℕ) → cut zxe n [] ≡ []
-  unfolding cut
-  cut-none zero = refl
-  cut-none (suc n) = refl
+  blocks-from-none : (n : ℕ) → blocksFrom zxe n [] ≡ []
+  unfolding blocksFrom
+  blocks-from-none zero = refl
+  blocks-from-none (suc n) = refl
 
-  cut-next : (n : ℕ) (rest : List ℕ) → 0 < length rest
-      → cut zxe (suc n) rest ≡ blockAt rest (choice zxe rest) ∷ cut zxe n (drop (covered (choice zxe rest)) rest)
-  unfolding cut
-  cut-next n [] h = absurd (omega arith)
-  cut-next n (x ∷ l) h = refl
+  blocks-from-next : (n : ℕ) (rest : List ℕ) → 0 < length rest
+      → blocksFrom zxe (suc n) rest ≡ blockAt rest (choice zxe rest) ∷ blocksFrom zxe n (drop (coveredBy (choice zxe rest)) rest)
+  unfolding blocksFrom
+  blocks-from-next n [] h = absurd (omega arith)
+  blocks-from-next n (x ∷ l) h = refl
 
   module _
       (P : List ℕ → List Block → Type 0) (none : P [] [])
-      (next : (rest : List ℕ) (bs : List Block) → Stands zxe rest (choice zxe rest) → P (drop (covered (choice zxe rest)) rest) bs
+      (next : (rest : List ℕ) (bs : List Block) → Stands zxe rest (choice zxe rest) → P (drop (coveredBy (choice zxe rest)) rest) bs
       → P rest (blockAt rest (choice zxe rest) ∷ bs))
     where
-      by-cut : (n : ℕ) (d : List ℕ) → EndsInZero d → length d ≤ n → P d (cut zxe n d)
-      unfolding cut
-      by-cut zero [] e h = none
-      by-cut zero (x ∷ l) e h = absurd (omega arith)
-      by-cut (suc n) [] e h = none
-      by-cut (suc n) (x ∷ l) e h =
+      by-blocks-from : (n : ℕ) (d : List ℕ) → EndsInZero d → length d ≤ n → P d (blocksFrom zxe n d)
+      unfolding blocksFrom
+      by-blocks-from zero [] e h = none
+      by-blocks-from zero (x ∷ l) e h = absurd (omega arith)
+      by-blocks-from (suc n) [] e h = none
+      by-blocks-from (suc n) (x ∷ l) e h =
           let rest = x ∷ l in
           let f = chosen zxe rest (omega arith) e in
           let s = numbers (f .row) .covers in
-          let k = covered (choice zxe rest) in
-          next rest _ f (by-cut n (drop k rest) (ends-drop rest e k) (omega (arith, length-drop k rest)))
+          let k = coveredBy (choice zxe rest) in
+          next rest _ f (by-blocks-from n (drop k rest) (ends-drop rest e k) (omega (arith, length-drop k rest)))
 
       -- what holds of no blocks, and of a block that stands there and blocks behind it of which it holds, holds of the blocks of D
       pub by-blocks : (d : List ℕ) → EndsInZero d → P d (blocks zxe d)
       unfolding blocks
-      by-blocks d e = by-cut (length d) d e (omega arith)
+      by-blocks d e = by-blocks-from (length d) d e (omega arith)
 
   -- the bound does not matter where it is large enough
-  cut-same : (n : ℕ) (d : List ℕ) → EndsInZero d → length d ≤ n → cut zxe n d ≡ blocks zxe d
+  blocks-from-same : (n : ℕ) (d : List ℕ) → EndsInZero d → length d ≤ n → blocksFrom zxe n d ≡ blocks zxe d
   unfolding blocks
-  cut-same n d e h = sym (by-cut (λ l bs. (m : ℕ) → length l ≤ m → bs ≡ cut zxe m l) (λ m k. sym (cut-none m)) next (length d) d e (omega arith) n h)
+  blocks-from-same n d e h = sym (by-blocks-from (λ l bs. (m : ℕ) → length l ≤ m → bs ≡ blocksFrom zxe m l) (λ m k. sym (blocks-from-none m)) next (length d) d e (omega arith) n h)
     where
       next : (rest : List ℕ) (bs : List Block) → Stands zxe rest (choice zxe rest)
-          → ((m : ℕ) → length (drop (covered (choice zxe rest)) rest) ≤ m → bs ≡ cut zxe m (drop (covered (choice zxe rest)) rest))
-          → (m : ℕ) → length rest ≤ m → blockAt rest (choice zxe rest) ∷ bs ≡ cut zxe m rest
+          → ((m : ℕ) → length (drop (coveredBy (choice zxe rest)) rest) ≤ m → bs ≡ blocksFrom zxe m (drop (coveredBy (choice zxe rest)) rest))
+          → (m : ℕ) → length rest ≤ m → blockAt rest (choice zxe rest) ∷ bs ≡ blocksFrom zxe m rest
       next rest bs f ih zero k = absurd (omega (arith, f .more))
       next rest bs f ih (suc m) k =
           let s = numbers (f .row) .covers in
-          let n = covered (choice zxe rest) in
-          ap (λ (l : List Block). blockAt rest (choice zxe rest) ∷ l) (ih m (omega (arith, length-drop n rest))) ∙ sym (cut-next m rest (omega (arith, f .more)))
+          let n = coveredBy (choice zxe rest) in
+          ap (λ (l : List Block). blockAt rest (choice zxe rest) ∷ l) (ih m (omega (arith, length-drop n rest))) ∙ sym (blocks-from-next m rest (omega (arith, f .more)))
 
   pub blocks-next : (rest : List ℕ) → 0 < length rest → EndsInZero rest
-      → blocks zxe rest ≡ blockAt rest (choice zxe rest) ∷ blocks zxe (drop (covered (choice zxe rest)) rest)
+      → blocks zxe rest ≡ blockAt rest (choice zxe rest) ∷ blocks zxe (drop (coveredBy (choice zxe rest)) rest)
   blocks-next rest h e =
-      let k = covered (choice zxe rest) in
-      sym (cut-same (suc (length rest)) rest e (omega arith))
-      ∙ (cut-next (length rest) rest h
+      let k = coveredBy (choice zxe rest) in
+      sym (blocks-from-same (suc (length rest)) rest e (omega arith))
+      ∙ (blocks-from-next (length rest) rest h
       ∙ ap (λ (bs : List Block). blockAt rest (choice zxe rest) ∷ bs)
-      (cut-same (length rest) (drop k rest) (ends-drop rest e k) (omega (arith, length-drop k rest))))
+      (blocks-from-same (length rest) (drop k rest) (ends-drop rest e k) (omega (arith, length-drop k rest))))
 
 -- ---- a whole frame
 
@@ -145,36 +144,36 @@ module _ (zxe : Bool) (f : List ℕ) where
       (λ rest bs fits ih b m. ⊎-elim (λ e. rw e (block-allowed zxe rest (choice zxe rest) fits)) (ih b) (List·Memᴰ·cases-cons m))
       (withPhantom f) (ends f)
 
-  pub frame-decodes : decoded (blocks zxe (withPhantom f)) ≡ withPhantom f
+  pub frame-decodes : decodedOctets (blocks zxe (withPhantom f)) ≡ withPhantom f
   frame-decodes =
-      by-blocks zxe (λ d bs. decoded bs ≡ d) decoded-nil
+      by-blocks zxe (λ d bs. decodedOctets bs ≡ d) decoded-nil
       (λ rest bs fits ih. rw (decoded-cons, ih) (block-covers zxe rest (choice zxe rest) fits))
       (withPhantom f) (ends f)
 
   -- what is sent of it has no flag, and is read back as its blocks and so as D
-  pub frame-flagless : List·Memᴰ flag (sent zxe f) → ⊥
-  unfolding sent
+  pub frame-flagless : List·Memᴰ flag (uninterrupted zxe f) → ⊥
+  unfolding uninterrupted
   frame-flagless = line-flagless (blocks zxe (withPhantom f))
 
-  pub frame-reads : readBlocks zxe (sent zxe f) ≡ some (blocks zxe (withPhantom f))
-  unfolding sent
+  pub frame-reads : readBlocks zxe (uninterrupted zxe f) ≡ some (blocks zxe (withPhantom f))
+  unfolding uninterrupted
   frame-reads = reads-back zxe (blocks zxe (withPhantom f)) frame-allowed
 
-  pub frame-back : Option·map decoded (readBlocks zxe (sent zxe f)) ≡ some (withPhantom f)
+  pub frame-back : Option·map decodedOctets (readBlocks zxe (uninterrupted zxe f)) ≡ some (withPhantom f)
   frame-back = rw (frame-reads, frame-decodes)
 
   -- and is no longer than this
-  pub frame-length : length (sent zxe f) ≤ length f + 1 + length f / 207
-  unfolding sent
+  pub frame-length : length (uninterrupted zxe f) ≤ length f + 1 + length f / 207
+  unfolding uninterrupted
   frame-length =
       omega (
         arith,
         ap longest (long f),
         longest-frame (length f),
-        by-blocks zxe (λ d bs. length (onLine bs) ≤ longest (length d)) (rw on-line-nil (omega arith))
+        by-blocks zxe (λ d bs. length (lineOctets bs) ≤ longest (length d)) (rw on-line-nil (omega arith))
             (λ rest bs fits ih.
             let c = choice zxe rest in
-            omega (arith, line-length (blockAt rest c) bs, data-long zxe rest c fits, ap longest (length-drop (covered c) rest), block-cost zxe rest c fits))
+            omega (arith, line-length (blockAt rest c) bs, data-long zxe rest c fits, ap longest (length-drop (coveredBy c) rest), block-cost zxe rest c fits))
             (withPhantom f) (ends f),
       )
 
@@ -182,13 +181,13 @@ module _ (zxe : Bool) (f : List ℕ) where
   pub frame-next : (pos : ℕ) → pos ≤ length f
       → (let rest = drop pos (withPhantom f) in
       let c = choice zxe rest in
-      blocks zxe rest ≡ blockAt rest c ∷ blocks zxe (drop (pos + covered c) (withPhantom f)))
+      blocks zxe rest ≡ blockAt rest c ∷ blocks zxe (drop (pos + coveredBy c) (withPhantom f)))
   frame-next pos h =
       let rest = drop pos (withPhantom f) in
       let c = choice zxe rest in
       blocks-next zxe rest (omega (arith, length-drop pos (withPhantom f), long f)) (ends-drop (withPhantom f) (ends f) pos)
-      ∙ ap (λ (l : List ℕ). blockAt rest c ∷ blocks zxe l) (drop-drop (covered c) pos (withPhantom f))
+      ∙ ap (λ (l : List ℕ). blockAt rest c ∷ blocks zxe l) (drop-drop (coveredBy c) pos (withPhantom f))
 
   pub frame-end : (pos : ℕ) → length f < pos → blocks zxe (drop pos (withPhantom f)) ≡ []
   unfolding blocks
-  frame-end pos h = ap (blocks zxe) (drop-of-length-le (withPhantom f) {i = pos} (omega (arith, long f))) ∙ cut-none zxe 0
+  frame-end pos h = ap (blocks zxe) (drop-of-length-le (withPhantom f) {i = pos} (omega (arith, long f))) ∙ blocks-from-none zxe 0

@@ -1,5 +1,4 @@
 -- The count of leading octets that pass a test: what it counts, where it stops, and the turns of a loop that counts.
--- Assumes nothing.
 use mathlib.Core.Path.{_≡_, refl}
 use mathlib.Core.Bool.{Bool, true, false}
 use mathlib.Core.List.{List, [], _∷_}
@@ -10,7 +9,7 @@ use borrow.Author.Tests.{eqb-true, eqb-false, ltb-true, ltb-false, not-true, not
 use lib.Dec.{ltb}
 use lib.ListN.{length, drop, getD}
 use lib.Seq.{drop-cons}
-use Rattle.cobs.specs.CodeBlocks.{leading, zeros, nonzeros, isZero, nonZero}
+use Rattle.cobs.specs.CodeBlocks.{leading, leadingZeros, leadingNonzeros, isZero, isNonzero}
 use Rattle.cobs.proofs.Tests.{branch, decide}
 
 module _ (test : ℕ → Bool) where
@@ -61,23 +60,23 @@ module _ (test : ℕ → Bool) where
 
 -- ---- the two counts
 
-pub zeros-at : (n : ℕ) (l : List ℕ) (i : ℕ) → i < zeros n l → getD l i 0 ≡ 0
+pub zeros-at : (n : ℕ) (l : List ℕ) (i : ℕ) → i < leadingZeros n l → getD l i 0 ≡ 0
 zeros-at n l i h = eqb-true (getD l i 0) 0 (passes isZero n l i h)
 
-pub nonzeros-at : (n : ℕ) (l : List ℕ) (i : ℕ) → i < nonzeros n l → getD l i 0 ≡ 0 → ⊥
-nonzeros-at n l i h = eqb-false (getD l i 0) 0 (not-true _ (passes nonZero n l i h))
+pub nonzeros-at : (n : ℕ) (l : List ℕ) (i : ℕ) → i < leadingNonzeros n l → getD l i 0 ≡ 0 → ⊥
+nonzeros-at n l i h = eqb-false (getD l i 0) 0 (not-true _ (passes isNonzero n l i h))
 
-pub nonzeros-end : (n : ℕ) (l : List ℕ) → nonzeros n l < n → nonzeros n l < length l → getD l (nonzeros n l) 0 ≡ 0
-nonzeros-end n l h k = eqb-true (getD l (nonzeros n l) 0) 0 (not-false _ (stops nonZero n l h k))
+pub nonzeros-end : (n : ℕ) (l : List ℕ) → leadingNonzeros n l < n → leadingNonzeros n l < length l → getD l (leadingNonzeros n l) 0 ≡ 0
+nonzeros-end n l h k = eqb-true (getD l (leadingNonzeros n l) 0) 0 (not-false _ (stops isNonzero n l h k))
 
 -- a list whose last octet is zero, as D and its rests are; or empty
 abbrev pub EndsInZero : List ℕ → Type 0
 EndsInZero l = getD l (length l - 1) 0 ≡ 0
 
 -- the octets before the first zero are not all
-pub nonzeros-inside : (n : ℕ) (l : List ℕ) → 0 < length l → EndsInZero l → nonzeros n l < length l
+pub nonzeros-inside : (n : ℕ) (l : List ℕ) → 0 < length l → EndsInZero l → leadingNonzeros n l < length l
 nonzeros-inside n l h e =
-    decide (ltb (nonzeros n l) (length l)) (ltb-true (nonzeros n l) (length l))
+    decide (ltb (leadingNonzeros n l) (length l)) (ltb-true (leadingNonzeros n l) (length l))
     (λ t.
-    let all : length l ≤ nonzeros n l = ltb-false (nonzeros n l) (length l) t in
+    let all : length l ≤ leadingNonzeros n l = ltb-false (leadingNonzeros n l) (length l) t in
     absurd (nonzeros-at n l (length l - 1) (omega arith) e))

@@ -1,5 +1,4 @@
 -- Code blocks (docs/READING.md and document 01, "Code blocks"; the COBS draft, 3 to 3.3).
--- Assumes nothing.
 use mathlib.Core.Path.{_≡_}
 use mathlib.Core.Bool.{Bool, not, _&&_}
 use mathlib.Core.List.{List, [], _∷_, _++_, map, flatMap, List·Memᴰ}
@@ -10,8 +9,14 @@ use lib.ListN.{length, take, drop, replicate}
 use Rattle.fcs.specs.CheckSequence.{Check, fcs}
 use Rattle.fcs.specs.Notation.{if_then_else_}
 pub use Rattle.cobs.specs.declared.Meaning.{Meaning}
-pub use Rattle.cobs.specs.declared.Meaning.the-variants.{Counts, NotAgreed, NoCode}
+pub use Rattle.cobs.specs.declared.Meaning.the-variants.{InTable, NotAgreed, NoCode}
 pub use Rattle.cobs.specs.declared.Choice.{Choice}
+
+-- What `look_up` and `choose` answer (declared in src/lib.rt), and what document 01 calls the cases and parts:
+--   Meaning of a code   InTable { nonzeros, zeros }   a row of the code table: its data octets, and the zeros after
+--                       NotAgreed                     D3-FE without ZXE, which a receiver refuses with 6
+--                       NoCode                        D1, D2 and FF, which a receiver refuses with 7; and zero
+--   Choice of a block   code, nonzeros, zeros         its code, its data octets, and the zeros after
 
 -- ---- the frame
 
@@ -26,21 +31,21 @@ withPhantom f = f ++ (0 ∷ [])
 -- ---- the code table
 
 -- first-last, as a range of codes is written
-unfoldable pub within : ℕ → ℕ → ℕ → Bool
-within first last c = leb first c && leb c last
+unfoldable pub inRange : ℕ → ℕ → ℕ → Bool
+inRange first last c = leb first c && leb c last
 
 -- The code table: how many data octets follow a code, and how many zeros stand after them. Zero, D1, D2 and FF are in no row.
 unfoldable pub codeTable : ℕ → Meaning
 codeTable c =
-    if within 0x01 0xCF c then Counts (c - 1) 1
-    else if eqb c 0xD0 then Counts 207 0
-    else if within 0xD3 0xDF c then Counts 0 (c - 0xD0)
-    else if within 0xE0 0xFE c then Counts (c - 0xE0) 2
+    if inRange 0x01 0xCF c then InTable (c - 1) 1
+    else if eqb c 0xD0 then InTable 207 0
+    else if inRange 0xD3 0xDF c then InTable 0 (c - 0xD0)
+    else if inRange 0xE0 0xFE c then InTable (c - 0xE0) 2
     else NoCode
 
 -- the table under a setting: only ZXE allows D3-FE
 unfoldable pub meaning : Bool → ℕ → Meaning
-meaning zxe c = if within 0xD3 0xFE c && not zxe then NotAgreed else codeTable c
+meaning zxe c = if inRange 0xD3 0xFE c && not zxe then NotAgreed else codeTable c
 
 -- ---- the exchange of 7E and 00
 
@@ -66,34 +71,34 @@ leading test (suc n) (x ∷ l) = if test x then suc (leading test n l) else 0
 abbrev pub isZero : ℕ → Bool
 isZero x = eqb x 0
 
-abbrev pub nonZero : ℕ → Bool
-nonZero x = not (eqb x 0)
+abbrev pub isNonzero : ℕ → Bool
+isNonzero x = not (eqb x 0)
 
-abbrev pub zeros : ℕ → List ℕ → ℕ
-zeros = leading isZero
+abbrev pub leadingZeros : ℕ → List ℕ → ℕ
+leadingZeros = leading isZero
 
-abbrev pub nonzeros : ℕ → List ℕ → ℕ
-nonzeros = leading nonZero
+abbrev pub leadingNonzeros : ℕ → List ℕ → ℕ
+leadingNonzeros = leading isNonzero
 
 -- at a rest of D: the code of the next block, and how many data octets and zeros it has
 unfoldable pub choice : Bool → List ℕ → Choice
 choice zxe rest =
-    let run = zeros 15 rest in
-    let k = nonzeros 207 rest in
-    if zxe && leb 3 run then record { code = 0xD0 + run; octets = 0; zeros = run }
-    else if eqb k 207 then record { code = 0xD0; octets = 207; zeros = 0 }
-    else if zxe && leb k 30 && eqb (zeros 2 (drop k rest)) 2 then record { code = 0xE0 + k; octets = k; zeros = 2 }
-    else record { code = k + 1; octets = k; zeros = 1 }
+    let run = leadingZeros 15 rest in
+    let k = leadingNonzeros 207 rest in
+    if zxe && leb 3 run then record { code = 0xD0 + run; nonzeros = 0; zeros = run }
+    else if eqb k 207 then record { code = 0xD0; nonzeros = 207; zeros = 0 }
+    else if zxe && leb k 30 && eqb (leadingZeros 2 (drop k rest)) 2 then record { code = 0xE0 + k; nonzeros = k; zeros = 2 }
+    else record { code = k + 1; nonzeros = k; zeros = 1 }
 
 -- ---- lists of blocks
 
 -- a block: a code octet and its data octets
 pub record Block : Type 0 where
   pub code : ℕ
-  pub octets : List ℕ
+  pub dataOctets : List ℕ
 
 abbrev pub zerosIn : Meaning → ℕ
-zerosIn (Counts n z) = z
+zerosIn (InTable n z) = z
 zerosIn NotAgreed = 0
 zerosIn NoCode = 0
 
@@ -103,53 +108,53 @@ zerosAfter b = zerosIn (codeTable (b .code))
 
 -- A block that the table allows: its code is agreed, as many data octets follow as it says, and none of them is zero.
 pub record Allowed (zxe : Bool) (b : Block) : Type 0 where
-  pub agreed : meaning zxe (b .code) ≡ Counts (length (b .octets)) (zerosAfter b)
-  pub nonzero : List·Memᴰ 0 (b .octets) → ⊥
+  pub row : meaning zxe (b .code) ≡ InTable (length (b .dataOctets)) (zerosAfter b)
+  pub nonzero : List·Memᴰ 0 (b .dataOctets) → ⊥
 
 -- a list of such blocks
 abbrev pub AllAllowed : Bool → List Block → Type 0
 AllAllowed zxe bs = (b : Block) → List·Memᴰ b bs → Allowed zxe b
 
 -- what blocks stand for in D: the data octets of each, and its zeros after them
-unfoldable pub decoded : List Block → List ℕ
-decoded = flatMap (λ b. b .octets ++ replicate (zerosAfter b) 0)
+unfoldable pub decodedOctets : List Block → List ℕ
+decodedOctets = flatMap (λ b. b .dataOctets ++ replicate (zerosAfter b) 0)
 
 -- the octets of blocks as they are sent
-unfoldable pub onLine : List Block → List ℕ
-onLine = flatMap (λ b. map toLine (b .code ∷ b .octets))
+unfoldable pub lineOctets : List Block → List ℕ
+lineOctets = flatMap (λ b. map toLine (b .code ∷ b .dataOctets))
 
 -- ---- the blocks of a whole frame
 
--- how much of a rest of D a choice covers, and the block that it makes of it
-abbrev pub covered : Choice → ℕ
-covered c = c .octets + c .zeros
+-- how many octets of a rest of D a choice covers, and the block that it makes of them
+abbrev pub coveredBy : Choice → ℕ
+coveredBy c = c .nonzeros + c .zeros
 
 abbrev pub blockAt : List ℕ → Choice → Block
-blockAt rest c = record { code = c .code; octets = take (c .octets) rest }
+blockAt rest c = record { code = c .code; dataOctets = take (c .nonzeros) rest }
 
--- the blocks that the sender cuts a rest of D into, n at most
-unfoldable pub cut : Bool → ℕ → List ℕ → List Block
-cut zxe zero rest = []
-cut zxe (suc n) [] = []
-cut zxe (suc n) (x ∷ l) =
+-- the blocks that a rest of D is cut into, n at most
+unfoldable pub blocksFrom : Bool → ℕ → List ℕ → List Block
+blocksFrom zxe zero rest = []
+blocksFrom zxe (suc n) [] = []
+blocksFrom zxe (suc n) (x ∷ l) =
     let rest = x ∷ l in
     let c = choice zxe rest in
-    blockAt rest c ∷ cut zxe n (drop (covered c) rest)
+    blockAt rest c ∷ blocksFrom zxe n (drop (coveredBy c) rest)
 
 -- the blocks of D: each covers an octet of it or more, so there are no more blocks than octets
 unfoldable pub blocks : Bool → List ℕ → List Block
-blocks zxe d = cut zxe (length d) d
+blocks zxe d = blocksFrom zxe (length d) d
 
--- what is sent of a frame that nothing interrupts, without its flag
-unfoldable pub sent : Bool → List ℕ → List ℕ
-sent zxe f = onLine (blocks zxe (withPhantom f))
+-- what is sent of an uninterrupted frame before its flag
+unfoldable pub uninterrupted : Bool → List ℕ → List ℕ
+uninterrupted zxe f = lineOctets (blocks zxe (withPhantom f))
 
 -- ---- reading blocks back
 
 -- The block that begins with the code c, of the octets l behind it: `behind k` is what is read after k of them.
 abbrev pub readBlock : ℕ → List ℕ → Meaning → (ℕ → Option (List Block)) → Option (List Block)
-readBlock c l (Counts k z) behind =
-    if leb k (length l) then Option·map (λ bs. record { code = c; octets = take k l } ∷ bs) (behind k) else none
+readBlock c l (InTable k z) behind =
+    if leb k (length l) then Option·map (λ bs. record { code = c; dataOctets = take k l } ∷ bs) (behind k) else none
 readBlock c l NotAgreed behind = none
 readBlock c l NoCode behind = none
 

@@ -1,6 +1,7 @@
 // Code blocks (document 01, "Code blocks"; the COBS draft, 3 to 3.3).
 ghost use mathlib.Core.Path.{_≡_};
-ghost use Rattle.cobs.specs.CodeBlocks.{withPhantom, meaning, toLine, fromLine, zeros, nonzeros, choice};
+ghost use Prim.Native.Nat.{min};
+ghost use Rattle.cobs.specs.CodeBlocks.{withPhantom, meaning, toLine, fromLine, leadingZeros, leadingNonzeros, choice};
 
 // The octet that closes a frame.
 pub const FLAG: u8 = 0x7e;
@@ -8,7 +9,7 @@ pub const FLAG: u8 = 0x7e;
 // What a code says.
 pub enum Meaning {
     // so many data octets follow, and so many zeros stand after them
-    Counts { octets: u8, zeros: u8 },
+    InTable { nonzeros: u8, zeros: u8 },
     // the code needs ZXE, which is off
     NotAgreed,
     NoCode,
@@ -17,8 +18,18 @@ pub enum Meaning {
 // The block that a sender chooses: its code, how many data octets follow it, and how many zeros stand after them.
 pub struct Choice {
     pub code: u8,
-    pub octets: u8,
+    pub nonzeros: u8,
     pub zeros: u8,
+}
+
+// The lesser of two numbers of octets.
+pub fn lesser(a: usize, b: usize) -> usize
+    ensures { λ r. ⌜ r ≡ min a b ⌝ }
+{
+    if a < b {
+        return a;
+    }
+    b
 }
 
 // An octet as it is sent within a frame.
@@ -49,14 +60,14 @@ pub fn look_up(code: u8, zxe: bool) -> Meaning
         return Meaning::NoCode;
     }
     if code <= 0xcf {
-        return Meaning::Counts {
-            octets: code - 1,
+        return Meaning::InTable {
+            nonzeros: code - 1,
             zeros: 1,
         };
     }
     if code == 0xd0 {
-        return Meaning::Counts {
-            octets: 207,
+        return Meaning::InTable {
+            nonzeros: 207,
             zeros: 0,
         };
     }
@@ -70,13 +81,13 @@ pub fn look_up(code: u8, zxe: bool) -> Meaning
         return Meaning::NotAgreed;
     }
     if code <= 0xdf {
-        return Meaning::Counts {
-            octets: 0,
+        return Meaning::InTable {
+            nonzeros: 0,
             zeros: code - 0xd0,
         };
     }
-    Meaning::Counts {
-        octets: code - 0xe0,
+    Meaning::InTable {
+        nonzeros: code - 0xe0,
         zeros: 2,
     }
 }
@@ -85,7 +96,7 @@ pub fn look_up(code: u8, zxe: bool) -> Meaning
 
 // How many octets that are not zero come first; the count breaks off at a zero or at 207.
 fn count_nonzeros(rest: &[u8]) -> u8
-    ensures { λ r. ⌜ r ≡ nonzeros 207 (withPhantom (now (rest .entry))) ⌝ }
+    ensures { λ r. ⌜ r ≡ leadingNonzeros 207 (withPhantom (now (rest .entry))) ⌝ }
 {
     let mut i = 0;
     let k = loop {
@@ -105,7 +116,7 @@ fn count_nonzeros(rest: &[u8]) -> u8
 
 // How many zeros come first; the count breaks off at another octet, at the end of D or at most.
 fn count_zeros(rest: &[u8], most: u8) -> u8
-    ensures { λ r. ⌜ r ≡ zeros most (withPhantom (now (rest .entry))) ⌝ }
+    ensures { λ r. ⌜ r ≡ leadingZeros most (withPhantom (now (rest .entry))) ⌝ }
 {
     let mut i = 0;
     let k = loop {
@@ -133,7 +144,7 @@ pub fn choose(rest: &[u8], zxe: bool) -> Choice
             let code = 0xd0 + run;
             return Choice {
                 code,
-                octets: 0,
+                nonzeros: 0,
                 zeros: run,
             };
         }
@@ -142,7 +153,7 @@ pub fn choose(rest: &[u8], zxe: bool) -> Choice
     if k == 207 {
         return Choice {
             code: 0xd0,
-            octets: 207,
+            nonzeros: 207,
             zeros: 0,
         };
     }
@@ -152,7 +163,7 @@ pub fn choose(rest: &[u8], zxe: bool) -> Choice
             let code = 0xe0 + k;
             return Choice {
                 code,
-                octets: k,
+                nonzeros: k,
                 zeros: 2,
             };
         }
@@ -160,7 +171,7 @@ pub fn choose(rest: &[u8], zxe: bool) -> Choice
     let code = k + 1;
     Choice {
         code,
-        octets: k,
+        nonzeros: k,
         zeros: 1,
     }
 }

@@ -5,25 +5,12 @@ use libc::STDOUT_FILENO;
 use link::receiver::Receiver;
 use tally::Tally;
 
-// ZXE and PRE.
-const SETTINGS: u8 = 0x03;
-
-// A capture's counts. read: it could be read, at least in part.
-struct Counted {
-    counts: Tally,
-    read: bool,
-}
-
 fn main() {
-    let end = files::end();
     let mut output = files::nothing_printed();
-    let mut number = 1usize;
-    while number < end {
-        output = capture(number, output);
-        if !output.on {
-            return;
+    for number in 1..files::end() {
+        if output.on {
+            output = capture(number, output);
         }
-        number += 1;
     }
 }
 
@@ -31,12 +18,11 @@ fn main() {
 fn capture(number: usize, output: Output) -> Output {
     let mut name = io::buffer();
     let file = files::open(b"count", number, &mut name);
-    let fd = file.fd;
-    if fd < 0 {
+    if file.fd < 0 {
         return output;
     }
     let n = file.named;
-    let counted = count(fd, &name[0..n]);
+    let counted = count(file.fd, &name[0..n]);
     files::close(file);
     if !counted.read {
         return output;
@@ -49,12 +35,18 @@ fn capture(number: usize, output: Output) -> Output {
     after
 }
 
+// A capture's counts. read: it could be read, at least in part.
+struct Counted {
+    counts: Tally,
+    read: bool,
+}
+
 // The reports of a capture, from its first octet to its last.
 fn count(fd: i32, name: &[u8]) -> Counted {
     let mut buffer = io::large_buffer();
     let mut first = [0u8; 2051];
     let mut second = [0u8; 2051];
-    let mut state = link::receiver::open(SETTINGS);
+    let mut state = link::receiver::open(transcript::SETTINGS);
     let mut counts = tally::empty();
     let mut got = libc::read(fd, &mut buffer);
     if got < 0 {
@@ -77,7 +69,7 @@ fn count(fd: i32, name: &[u8]) -> Counted {
         reads -= 1;
     }
     if got < 0 {
-        cut_off(name);
+        ended_early(name);
     }
     Counted { counts, read: true }
 }
@@ -138,7 +130,7 @@ fn unread(name: &[u8]) {
     files::fail(b"count", name, b"cannot be read");
 }
 
-fn cut_off(name: &[u8]) {
+fn ended_early(name: &[u8]) {
     files::fail(
         b"count",
         name,

@@ -7,8 +7,8 @@ use link::receiver::Fragment;
 use link::receiver::LastBlock;
 use link::receiver::Receiver;
 use link::sender::Lane;
+use link::sender::LaneState;
 use link::sender::OnLine;
-use link::sender::Queue;
 use link::sender::Sender;
 
 // A mark is the number's remainder by 2.
@@ -16,8 +16,8 @@ fn mark(n: [u8; 20], at: usize) -> bool {
     octet(n, at) % 2 == 1
 }
 
-fn queue(n: [u8; 20], at: usize) -> Queue {
-    Queue {
+fn lane_state(n: [u8; 20], at: usize) -> LaneState {
+    LaneState {
         length: number(n, at),
         position: number(n, at % 20 + 2),
     }
@@ -25,16 +25,16 @@ fn queue(n: [u8; 20], at: usize) -> Queue {
 
 fn on_line(n: u16) -> OnLine {
     match n % 3 {
-        0 => OnLine::Neither,
-        1 => OnLine::Sends(Lane::Low),
-        _ => OnLine::Sends(Lane::High),
+        0 => OnLine::NoLane,
+        1 => OnLine::Sending(Lane::Low),
+        _ => OnLine::Sending(Lane::High),
     }
 }
 
 fn on_number(on: OnLine) -> u64 {
     match on {
-        OnLine::Neither => 0,
-        OnLine::Sends(lane) => match lane {
+        OnLine::NoLane => 0,
+        OnLine::Sending(lane) => match lane {
             Lane::Low => 1,
             Lane::High => 2,
         },
@@ -44,14 +44,14 @@ fn on_number(on: OnLine) -> u64 {
 // The ten numbers of a sender, in the order of docs/EXERCISE.md.
 pub(crate) fn sender(n: [u8; 20]) -> Sender {
     Sender {
-        low: queue(n, 2),
-        high: queue(n, 6),
+        settings: octet(n, 0),
+        low: lane_state(n, 2),
+        high: lane_state(n, 6),
         left: octet(n, 10),
         zeros: octet(n, 12),
         on: on_line(number(n, 14)),
         suspended: mark(n, 16),
         cut: mark(n, 18),
-        settings: octet(n, 0),
     }
 }
 
@@ -78,31 +78,31 @@ pub(crate) fn sender_line(s: Sender) -> Line {
 
 fn fragment(n: u16) -> Fragment {
     if n == 0 {
-        return Fragment::Nothing;
+        return Fragment::NothingHeld;
     }
-    Fragment::Octets(n - 1)
+    Fragment::Holds(n - 1)
 }
 
 fn held_number(held: Fragment) -> u64 {
     match held {
-        Fragment::Nothing => 0,
-        Fragment::Octets(n) => n as u64 + 1,
+        Fragment::NothingHeld => 0,
+        Fragment::Holds(n) => n as u64 + 1,
     }
 }
 
 fn last_block(n: u16) -> LastBlock {
     match n % 3 {
         0 => LastBlock::NoBlock,
-        1 => LastBlock::Full,
-        _ => LastBlock::Other,
+        1 => LastBlock::BlockD0,
+        _ => LastBlock::OtherBlock,
     }
 }
 
 fn last_number(last: LastBlock) -> u64 {
     match last {
         LastBlock::NoBlock => 0,
-        LastBlock::Full => 1,
-        LastBlock::Other => 2,
+        LastBlock::BlockD0 => 1,
+        LastBlock::OtherBlock => 2,
     }
 }
 
@@ -110,7 +110,7 @@ fn last_number(last: LastBlock) -> u64 {
 pub(crate) fn receiver(n: [u8; 20]) -> Receiver {
     Receiver {
         settings: octet(n, 0),
-        second: mark(n, 2),
+        turn: mark(n, 2),
         decoded: number(n, 4),
         held: fragment(number(n, 6)),
         left: octet(n, 8),
@@ -129,7 +129,7 @@ pub(crate) fn receiver_line(r: Receiver) -> Line {
         b'T',
         [
             r.settings as u64,
-            r.second as u64,
+            r.turn as u64,
             r.decoded as u64,
             held_number(held),
             r.left as u64,

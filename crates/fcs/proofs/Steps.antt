@@ -1,5 +1,4 @@
 -- The bit steps of a check of any width: they are linear in ⊕, and keep to the width.
--- Assumes nothing.
 use mathlib.Core.Path.{_≡_, refl}
 use Prim.Native.Nat.{ℕ, zero, suc, _+_, _*_, _/_, _%_, _^_, _<_}
 use native.Mathlib.Nat.{zero-mul, one-mul, add-zero, add-suc}

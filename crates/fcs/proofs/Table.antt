@@ -1,5 +1,4 @@
 -- A table's rule, for a check of any width: one test that antt computes over all places, and what it shows.
--- Assumes nothing.
 use mathlib.Core.Path.{_≡_, sym, ap, ap₂, _∙_}
 use mathlib.Core.Bool.{Bool, true, false, _&&_}
 use mathlib.Core.List.{List}

@@ -1,5 +1,4 @@
 -- The length of a line.
--- Assumes nothing.
 use mathlib.Core.Path.{_≡_, refl}
 use mathlib.Core.Bool.{true, false}
 use mathlib.Core.List.{List, [], _∷_, _++_}
@@ -7,17 +6,17 @@ use Prim.Native.Nat.{ℕ, _+_, _*_, _≤_, _<_}
 use native.Mathlib.Omega.{arith}
 use lib.ListN.{length, length-append}
 use Rattle.link.specs.Answers.{Answer, done, octet, idle, quiet, packet, held, refused}
-use Rattle.lines.specs.Lines.{space, lineFeed, decimal, octets, line, packetLine, reportLine}
+use Rattle.lines.specs.Lines.{space, lineFeed, decimal, hexOctets, textLine, packetLine, reportLine}
 use Rattle.lines.proofs.DecimalDigits.{count-most}
 use Rattle.lines.proofs.Hexadecimal.{octets-length}
 
-pub line-length : (letter n : ℕ) (rest : List ℕ) → length (line letter n rest) ≡ length (decimal n) + length rest + 2
+pub line-length : (letter n : ℕ) (rest : List ℕ) → length (textLine letter n rest) ≡ length (decimal n) + length rest + 2
 line-length letter n rest = omega (arith, length-append (decimal n) rest)
 
 pub packet-length : (n : ℕ) (shown : List ℕ) → length (packetLine n shown) ≡ length (decimal n) + 3 * length shown + 3
 packet-length n shown =
-    let rest = octets shown ++ (lineFeed ∷ []) in
-    omega (arith, line-length 0x50 n rest, length-append (octets shown) (lineFeed ∷ []), octets-length shown)
+    let rest = hexOctets shown ++ (lineFeed ∷ []) in
+    omega (arith, line-length 0x50 n rest, length-append (hexOctets shown) (lineFeed ∷ []), octets-length shown)
 
 -- the number that a line tells
 abbrev pub number : Answer → ℕ

@@ -1,5 +1,4 @@
 -- The text of what is reported (document 01, "Display, tally, capture program"), and the page that it is written into.
--- Assumes nothing.
 use mathlib.Core.Bool.{Bool}
 use mathlib.Core.List.{List, [], _∷_, _++_, flatMap}
 use Prim.Native.Nat.{ℕ, zero, suc, _+_, _-_, _/_, _%_}
@@ -40,8 +39,8 @@ abbrev pub hex : ℕ → List ℕ
 hex x = digit (x / 16) ∷ digit (x % 16) ∷ []
 
 -- octets, each with a space before it
-unfoldable pub octets : List ℕ → List ℕ
-octets xs = flatMap (λ x. space ∷ hex x) xs
+unfoldable pub hexOctets : List ℕ → List ℕ
+hexOctets xs = flatMap (λ x. space ∷ hex x) xs
 
 -- The decimal digits of n, none of them a leading zero, found in at most so many steps.
 unfoldable pub decimalIn : ℕ → ℕ → List ℕ
@@ -55,24 +54,24 @@ decimal n = decimalIn (suc n) n
 -- ---- lines
 
 -- a letter, a number, and the rest
-abbrev pub line : ℕ → ℕ → List ℕ → List ℕ
-line letter n rest = letter ∷ space ∷ decimal n ++ rest
+abbrev pub textLine : ℕ → ℕ → List ℕ → List ℕ
+textLine letter n rest = letter ∷ space ∷ decimal n ++ rest
 
 -- P, the packet's length, its octets
 abbrev pub packetLine : ℕ → List ℕ → List ℕ
-packetLine n shown = line 0x50 n (octets shown ++ (lineFeed ∷ []))
+packetLine n shown = textLine 0x50 n (hexOctets shown ++ (lineFeed ∷ []))
 
 -- H, the count, 1 if an older fragment was replaced, else 0
 abbrev pub heldLine : ℕ → Bool → List ℕ
-heldLine n replaced = line 0x48 n (space ∷ (if replaced then 0x31 else 0x30) ∷ lineFeed ∷ [])
+heldLine n replaced = textLine 0x48 n (space ∷ (if replaced then 0x31 else 0x30) ∷ lineFeed ∷ [])
 
 -- R, the refusal's number
 abbrev pub refusedLine : ℕ → List ℕ
-refusedLine n = line 0x52 n (lineFeed ∷ [])
+refusedLine n = textLine 0x52 n (lineFeed ∷ [])
 
 -- The line for a report; shown: the octets of its packet. Other answers have no line.
 unfoldable pub reportLine : Answer → List ℕ → List ℕ
-reportLine (packet second n) shown = packetLine n shown
+reportLine (packet inSecond n) shown = packetLine n shown
 reportLine (held n replaced) shown = heldLine n replaced
 reportLine (refused n) shown = refusedLine n
 reportLine quiet shown = []

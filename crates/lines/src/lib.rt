@@ -4,8 +4,8 @@ ghost use mathlib.Core.Path.{_≡_};
 ghost use mathlib.Core.List.{_∷_};
 ghost use Prim.Native.Nat.{_+_, _-_, _<_, _≤_};
 ghost use lib.ListN.{length};
-ghost use Rattle.link.specs.Answers.{report};
-ghost use Rattle.lines.specs.Lines.{append, space, digit, octets, decimal, line, packetLine, reportLine};
+ghost use Rattle.link.specs.Answers.{reportAnswer};
+ghost use Rattle.lines.specs.Lines.{append, space, digit, hexOctets, decimal, textLine, packetLine, reportLine};
 use link::receiver::Report;
 
 // How many octets of a page of that size are not filled.
@@ -41,7 +41,7 @@ fn hex_digit(n: u8) -> u8
 // A space and two hexadecimal capitals for each octet of the list.
 pub fn octets(list: &[u8], page: &mut [u8], filled: usize) -> usize
     ensures { λ r. ⌜ record { area = now (page .exit); filled = r }
-        ≡ append (record { area = now (page .entry); filled = filled }) (octets (now (list .entry))) ⌝ }
+        ≡ append (record { area = now (page .entry); filled = filled }) (hexOctets (now (list .entry))) ⌝ }
 {
     if room(page.len(), filled) / 3 < list.len() {
         return filled;
@@ -115,7 +115,7 @@ fn head(letter: u8, n: u64, count: usize, page: &mut [u8], filled: usize) -> usi
 // A line of a letter, a number and the rest, its end included.
 fn line(letter: u8, n: u64, rest: &[u8], page: &mut [u8], filled: usize) -> usize
     ensures { λ r. ⌜ record { area = now (page .exit); filled = r }
-        ≡ append (record { area = now (page .entry); filled = filled }) (line letter n (now (rest .entry))) ⌝ }
+        ≡ append (record { area = now (page .entry); filled = filled }) (textLine letter n (now (rest .entry))) ⌝ }
 {
     let count = digits(n);
     let free = room(page.len(), filled);
@@ -150,7 +150,7 @@ fn packet_line(n: u64, list: &[u8], page: &mut [u8], filled: usize) -> usize
 // The line for a report: the whole of it, or nothing. shown: the octets of its packet.
 pub fn report(given: Report, shown: &[u8], page: &mut [u8], filled: usize) -> usize
     ensures { λ r. ⌜ record { area = now (page .exit); filled = r }
-        ≡ append (record { area = now (page .entry); filled = filled }) (reportLine (report given) (now (shown .entry))) ⌝ }
+        ≡ append (record { area = now (page .entry); filled = filled }) (reportLine (reportAnswer given) (now (shown .entry))) ⌝ }
 {
     match given {
         Report::Quiet => filled,

@@ -1,5 +1,4 @@
 -- What the reports depend on: two receivers that are alike stay so, and report alike.
--- Assumes nothing.
 use mathlib.Core.Path.{_≡_, refl, sym, ap, subst, _∙_}
 use mathlib.Core.Bool.{Bool, true, false, cond, not}
 use mathlib.Core.List.{List, [], _∷_, _++_}
@@ -13,13 +12,13 @@ use lib.Seq.{take-take}
 use Rattle.fcs.specs.CheckSequence.{good}
 use Rattle.cobs.specs.CodeBlocks.{flag, fromLine, meaning}
 use Rattle.cobs.specs.declared.Meaning.{Meaning}
-use Rattle.cobs.specs.declared.Meaning.the-variants.{Counts, NotAgreed, NoCode}
+use Rattle.cobs.specs.declared.Meaning.the-variants.{InTable, NotAgreed, NoCode}
 use Rattle.cobs.proofs.Tests.{branch, decide}
 use Rattle.link.specs.Agreed.{Agreed, agreed, leastFrame, mostDecoded}
 use Rattle.link.specs.Answers.{Answer, done, octet, idle, quiet, packet, held, refused}
-use Rattle.link.specs.Receiver.{Fragment, none, octets, Receiver, Working, Receiving, Receive, Ended, due, begin, isNone, isD0, inBounds, remember, refuse, wrote, decode, dataOctet, blockOf, byMeaning, code, takeUp, resume, firstOctet, inside, kept, ends, hold, whole, close, atFlag, areaOf, work, putBack, flagged, receive}
+use Rattle.link.specs.Receiver.{Fragment, nothingHeld, holds, Receiver, Working, ReceiverEnd, Receive, Ended, withDue, step2BeginBlock, isNoBlock, isD0, inBounds, step4Remember, step4Refuse, step3Write, step3Decode, step3Data, lastBlock, step2ByMeaning, step2Code, step1ResumeHeld, step1D1, step1FirstOctet, steps1To4, heldAfter, step5End, step5Hold, step5WithoutPhantom, step5Flag, atFlag, areaOf, work, putBack, flagged, receive}
 use Rattle.link.specs.Runs.{receives, standsFor}
-use Rattle.link.specs.Demands.{heldIn, Alike, Lent, told, AreasAside}
+use Rattle.link.specs.Demands.{heldOctets, Alike, AreasLongEnough, reportAndPacket, AreasAside}
 use Rattle.link.proofs.Write.{length-write, take-write}
 use Rattle.link.proofs.ReceiverBounds.{Bounds, bounds, Ready, area-long, receive-flag, receive-other, receive-ready}
 use Rattle.link.proofs.Follow.{work-back, aside-back}
@@ -38,8 +37,8 @@ earlier n m a b h e = sym (take-take n m b h) ∙ (ap (take n) e ∙ take-take n
 -- From the state s two work areas went to w and v: the states are one, held and turn are as they were, and the decoded octets are the same.
 record Stays (s : Receiver) (w v : Working) : Type 0 where
   same : v .state ≡ w .state
-  turn : w .state .second ≡ s .second
-  holds : w .state .held ≡ s .held
+  turn : w .state .turn ≡ s .turn
+  same-held : w .state .held ≡ s .held
   decoded : take (w .state .decoded) (v .area) ≡ take (w .state .decoded) (w .area)
 
 module _ (g : Agreed) (s : Receiver) (a b : List ℕ) (la : mostDecoded g ≤ length a) (lb : mostDecoded g ≤ length b)
@@ -48,69 +47,69 @@ module _ (g : Agreed) (s : Receiver) (a b : List ℕ) (la : mostDecoded g ≤ le
   at r area = record { state = r; area = area }
 
   -- octets written after those decoded, from a state with the same count, held and turn
-  wrote-stays : (r : Receiver) (xs : List ℕ) → r .second ≡ s .second → r .held ≡ s .held → r .decoded ≡ s .decoded
-      → s .decoded + length xs ≤ mostDecoded g → Stays s (wrote xs (at r a)) (wrote xs (at r b))
-  wrote-stays r xs turn holds count room =
+  write-stays : (r : Receiver) (xs : List ℕ) → r .turn ≡ s .turn → r .held ≡ s .held → r .decoded ≡ s .decoded
+      → s .decoded + length xs ≤ mostDecoded g → Stays s (step3Write xs (at r a)) (step3Write xs (at r b))
+  write-stays r xs turn same-held count room =
       let n = r .decoded in
       let eq₁ : take n b ≡ take n a = subst (λ (k : ℕ). take k b ≡ take k a) (sym count) eq in
       record {
         same = refl;
         turn = turn;
-        holds = holds;
+        same-held = same-held;
         decoded = take-write b n xs (omega arith) ∙ (ap (λ (l : List ℕ). l ++ xs) eq₁ ∙ sym (take-write a n xs (omega arith)));
       }
 
-  refuse-stays : (r : Receiver) (n : ℕ) → r .second ≡ s .second → r .held ≡ s .held → r .decoded ≡ s .decoded
-      → Stays s (refuse n (at r a)) (refuse n (at r b))
-  refuse-stays r n turn holds count =
-      record { same = refl; turn = turn; holds = holds; decoded = subst (λ (k : ℕ). take k b ≡ take k a) (sym count) eq }
+  refuse-stays : (r : Receiver) (n : ℕ) → r .turn ≡ s .turn → r .held ≡ s .held → r .decoded ≡ s .decoded
+      → Stays s (step4Refuse n (at r a)) (step4Refuse n (at r b))
+  refuse-stays r n turn same-held count =
+      record { same = refl; turn = turn; same-held = same-held; decoded = subst (λ (k : ℕ). take k b ≡ take k a) (sym count) eq }
 
-  decode-stays : (r : Receiver) (xs : List ℕ) → r .second ≡ s .second → r .held ≡ s .held → r .decoded ≡ s .decoded
-      → Stays s (decode g xs (at r a)) (decode g xs (at r b))
-  unfolding decode
-  decode-stays r xs turn holds count =
-      branch₂ (Stays s) (ltb (mostDecoded g) (r .decoded + length xs)) (λ _. refuse-stays r 10 turn holds count)
-      (λ e. wrote-stays r xs turn holds count (omega (arith, ltb-false (mostDecoded g) (r .decoded + length xs) e)))
+  decode-stays : (r : Receiver) (xs : List ℕ) → r .turn ≡ s .turn → r .held ≡ s .held → r .decoded ≡ s .decoded
+      → Stays s (step3Decode g xs (at r a)) (step3Decode g xs (at r b))
+  unfolding step3Decode
+  decode-stays r xs turn same-held count =
+      branch₂ (Stays s) (ltb (mostDecoded g) (r .decoded + length xs)) (λ _. refuse-stays r 10 turn same-held count)
+      (λ e. write-stays r xs turn same-held count (omega (arith, ltb-false (mostDecoded g) (r .decoded + length xs) e)))
 
-  meaning-stays : (c : ℕ) (m : Meaning) → Stays s (byMeaning g (at s a) c m) (byMeaning g (at s b) c m)
-  unfolding byMeaning
-  meaning-stays c (Counts n z) =
-      branch₂ (Stays s) (eqb n 0) (λ _. decode-stays (begin (blockOf c) 0 0 s) (replicate z 0) refl refl refl)
-      (λ _. record { same = refl; turn = refl; holds = refl; decoded = eq })
+  meaning-stays : (c : ℕ) (m : Meaning) → Stays s (step2ByMeaning g (at s a) c m) (step2ByMeaning g (at s b) c m)
+  unfolding step2ByMeaning
+  meaning-stays c (InTable n z) =
+      branch₂ (Stays s) (eqb n 0) (λ _. decode-stays (step2BeginBlock (lastBlock c) 0 0 s) (replicate z 0) refl refl refl)
+      (λ _. record { same = refl; turn = refl; same-held = refl; decoded = eq })
   meaning-stays c NotAgreed = refuse-stays s 6 refl refl refl
   meaning-stays c NoCode = refuse-stays s 7 refl refl refl
 
-  code-stays : (c : ℕ) → Stays s (code g (at s a) c) (code g (at s b) c)
-  unfolding code
+  code-stays : (c : ℕ) → Stays s (step2Code g (at s a) c) (step2Code g (at s b) c)
+  unfolding step2Code
   code-stays c = meaning-stays c (meaning (g .zxe) c)
 
 -- a data octet; its block's zeros are decoded behind it
 data-stays : (g : Agreed) (s : Receiver) (a b : List ℕ) → mostDecoded g ≤ length a → mostDecoded g ≤ length b → take (s .decoded) b ≡ take (s .decoded) a
     → s .decoded ≤ mostDecoded g → (x : ℕ)
-    → Stays s (dataOctet g (record { state = s; area = a }) x) (dataOctet g (record { state = s; area = b }) x)
-unfolding dataOctet
+    → Stays s (step3Data g (record { state = s; area = a }) x) (step3Data g (record { state = s; area = b }) x)
+unfolding step3Data
 data-stays g s a b la lb eq deep x =
     branch₂ (Stays s) (ltb (mostDecoded g) (s .decoded + 1)) (λ _. refuse-stays g s a b la lb eq deep s 10 refl refl refl)
     (λ e.
     let room : s .decoded + 1 ≤ mostDecoded g = ltb-false (mostDecoded g) (s .decoded + 1) e in
     branch₂ (Stays s) (eqb (s .left) 1)
     (λ _.
-    let w : Working = wrote (x ∷ []) (record { state = due 0 0 s; area = a }) in
-    let v : Working = wrote (x ∷ []) (record { state = due 0 0 s; area = b }) in
-    let one = wrote-stays g s a b la lb eq deep (due 0 0 s) (x ∷ []) refl refl refl room in
+    let w : Working = step3Write (x ∷ []) (record { state = withDue 0 0 s; area = a }) in
+    let v : Working = step3Write (x ∷ []) (record { state = withDue 0 0 s; area = b }) in
+    let one = write-stays g s a b la lb eq deep (withDue 0 0 s) (x ∷ []) refl refl refl room in
     let k =
     decode-stays g (w .state) (w .area) (v .area) (omega (arith, length-write a (s .decoded) (x ∷ []) (omega arith)))
     (omega (arith, length-write b (s .decoded) (x ∷ []) (omega arith))) (one .decoded) room (w .state) (replicate (s .zeros) 0) refl refl refl in
-    record { same = k .same; turn = k .turn; holds = k .holds; decoded = k .decoded })
-    (λ _. wrote-stays g s a b la lb eq deep (due (s .left - 1) (s .zeros) s) (x ∷ []) refl refl refl room))
+    record { same = k .same; turn = k .turn; same-held = k .same-held; decoded = k .decoded })
+    (λ _. write-stays g s a b la lb eq deep (withDue (s .left - 1) (s .zeros) s) (x ∷ []) refl refl refl room))
 
 -- ---- two receivers of one state
 
 module _ (g : Agreed) (s : Receiver) (a₁ a₂ b₁ b₂ : List ℕ) (alike : Alike (record { state = s; first = a₁; second = a₂ }) (record { state = s; first = b₁; second = b₂ })) where
-  abbrev e : Receiving
+  abbrev e : ReceiverEnd
   e = record { state = s; first = a₁; second = a₂ }
 
-  abbrev f : Receiving
+  abbrev f : ReceiverEnd
   f = record { state = s; first = b₁; second = b₂ }
 
   -- where two work areas went
@@ -120,12 +119,12 @@ module _ (g : Agreed) (s : Receiver) (a₁ a₂ b₁ b₂ : List ℕ) (alike : A
 
   stays-both : (w v : Working) → Stays s w v → Both w v
   stays-both w v k =
-      let area : Bool → Receiving → Working → List ℕ = λ c d u. cond c (cond (s .second) (u .area) (d .second)) (cond (s .second) (d .first) (u .area)) in
+      let area : Bool → ReceiverEnd → Working → List ℕ = λ c d u. cond c (cond (s .turn) (u .area) (d .second)) (cond (s .turn) (d .first) (u .area)) in
       let n = w .state .decoded in
-      let back : (d : Receiving) (u : Working) → area (w .state .second) d u ≡ u .area =
-      (λ d u. ap (λ (c : Bool). area c d u) (k .turn) ∙ work-back (s .second) (d .first) (d .second) (u .area)) in
-      let aside : (d : Receiving) (u : Working) → area (not (w .state .second)) d u ≡ cond (not (s .second)) (d .second) (d .first) =
-      (λ d u. ap (λ (c : Bool). area (not c) d u) (k .turn) ∙ aside-back (s .second) (d .first) (d .second) (u .area)) in
+      let back : (d : ReceiverEnd) (u : Working) → area (w .state .turn) d u ≡ u .area =
+      (λ d u. ap (λ (c : Bool). area c d u) (k .turn) ∙ work-back (s .turn) (d .first) (d .second) (u .area)) in
+      let aside : (d : ReceiverEnd) (u : Working) → area (not (w .state .turn)) d u ≡ cond (not (s .turn)) (d .second) (d .first) =
+      (λ d u. ap (λ (c : Bool). area (not c) d u) (k .turn) ∙ aside-back (s .turn) (d .first) (d .second) (u .area)) in
       record {
         same = k .same;
         after =
@@ -133,48 +132,48 @@ module _ (g : Agreed) (s : Receiver) (a₁ a₂ b₁ b₂ : List ℕ) (alike : A
               state = k .same;
               decoded = ap (take n) (back f v) ∙ (k .decoded ∙ sym (ap (take n) (back e w)));
               held =
-                  ap (heldIn (w .state .held)) (aside f v)
-                  ∙ (subst (λ (h : Fragment). heldIn h (areaOf (not (s .second)) f) ≡ heldIn h (areaOf (not (s .second)) e)) (sym (k .holds)) (alike .held)
-                  ∙ sym (ap (heldIn (w .state .held)) (aside e w)));
+                  ap (heldOctets (w .state .held)) (aside f v)
+                  ∙ (subst (λ (h : Fragment). heldOctets h (areaOf (not (s .turn)) f) ≡ heldOctets h (areaOf (not (s .turn)) e)) (sym (k .same-held)) (alike .held)
+                  ∙ sym (ap (heldOctets (w .state .held)) (aside e w)));
             };
       }
 
-  -- D1 that takes up what is held: the other area works
-  up-both : (h : Fragment) → s .held ≡ h
-      → Both (record { state = takeUp h s; area = work e .area }) (record { state = takeUp h s; area = work f .area })
-  unfolding takeUp
-  up-both none q = stays-both _ _ (record { same = refl; turn = refl; holds = refl; decoded = alike .decoded })
-  up-both (octets n) q =
+  -- D1 that resumes what is held: the other area works
+  resume-both : (h : Fragment) → s .held ≡ h
+      → Both (record { state = step1ResumeHeld h s; area = work e .area }) (record { state = step1ResumeHeld h s; area = work f .area })
+  unfolding step1ResumeHeld
+  resume-both nothingHeld q = stays-both _ _ (record { same = refl; turn = refl; same-held = refl; decoded = alike .decoded })
+  resume-both (holds n) q =
       record {
         same = refl;
         after =
             record {
               state = refl;
               decoded =
-                  ap (take n) (aside-back (s .second) b₁ b₂ (work f .area))
-                  ∙ (subst (λ (h : Fragment). heldIn h (areaOf (not (s .second)) f) ≡ heldIn h (areaOf (not (s .second)) e)) q (alike .held)
-                  ∙ sym (ap (take n) (aside-back (s .second) a₁ a₂ (work e .area))));
+                  ap (take n) (aside-back (s .turn) b₁ b₂ (work f .area))
+                  ∙ (subst (λ (h : Fragment). heldOctets h (areaOf (not (s .turn)) f) ≡ heldOctets h (areaOf (not (s .turn)) e)) q (alike .held)
+                  ∙ sym (ap (take n) (aside-back (s .turn) a₁ a₂ (work e .area))));
               held = refl;
             };
       }
 
   module _ (la : mostDecoded g ≤ length (work e .area)) (lb : mostDecoded g ≤ length (work f .area)) (b : Bounds g s) where
-    inside-both : (x : ℕ) → Both (inside g (work e) x) (inside g (work f) x)
-    unfolding inside firstOctet resume
-    inside-both x =
+    steps-both : (x : ℕ) → Both (steps1To4 g (work e) x) (steps1To4 g (work f) x)
+    unfolding steps1To4 step1FirstOctet step1D1
+    steps-both x =
         let wa = work e .area in
         let wb = work f .area in
         let eq = alike .decoded in
         let d = b .deep in
-        let none·moved : Stays s (work e) (work f) = record { same = refl; turn = refl; holds = refl; decoded = eq } in
-        let refused·6 : Stays s (record { state = remember 6 true s; area = wa }) (record { state = remember 6 true s; area = wb }) =
-        record { same = refl; turn = refl; holds = refl; decoded = eq } in
+        let none·moved : Stays s (work e) (work f) = record { same = refl; turn = refl; same-held = refl; decoded = eq } in
+        let refused·6 : Stays s (record { state = step4Remember 6 true s; area = wa }) (record { state = step4Remember 6 true s; area = wb }) =
+        record { same = refl; turn = refl; same-held = refl; decoded = eq } in
         branch₂ Both (not (eqb (s .refusal) 0)) (λ _. stays-both _ _ none·moved)
         (λ _. branch₂ Both (not (s .framed))
         (λ _. branch₂ Both (eqb x 0xFF) (λ _. stays-both _ _ (refuse-stays g s wa wb la lb eq d s 5 refl refl refl))
         (λ _. branch₂ Both (eqb x 0xD1)
         (λ _.
-        branch₂ (λ r q. Both (record { state = r; area = wa }) (record { state = q; area = wb })) (g .pre) (λ _. up-both (s .held) refl)
+        branch₂ (λ r q. Both (record { state = r; area = wa }) (record { state = q; area = wb })) (g .pre) (λ _. resume-both (s .held) refl)
         (λ _. stays-both _ _ refused·6))
         (λ _. stays-both _ _ (code-stays g s wa wb la lb eq d x))))
         (λ _. branch₂ Both (ltb 0 (s .left)) (λ _. stays-both _ _ (data-stays g s wa wb la lb eq d x))
@@ -187,46 +186,46 @@ module _ (g : Agreed) (s : Receiver) (a₁ a₂ b₁ b₂ : List ℕ) (alike : A
     says : standsFor (t .report) f ≡ standsFor (t .report) e
     after : Alike (record { state = t .state; first = a₁; second = a₂ }) (record { state = t .state; first = b₁; second = b₂ })
 
-  kept-alike : heldIn (kept s) (areaOf (not (s .second)) f) ≡ heldIn (kept s) (areaOf (not (s .second)) e)
-  kept-alike =
-      branch (λ (h : Fragment). heldIn h (areaOf (not (s .second)) f) ≡ heldIn h (areaOf (not (s .second)) e)) (s .resumed) (λ _. refl) (λ _. alike .held)
+  held-after-alike : heldOctets (heldAfter s) (areaOf (not (s .turn)) f) ≡ heldOctets (heldAfter s) (areaOf (not (s .turn)) e)
+  held-after-alike =
+      branch (λ (h : Fragment). heldOctets h (areaOf (not (s .turn)) f) ≡ heldOctets h (areaOf (not (s .turn)) e)) (s .resumed) (λ _. refl) (λ _. alike .held)
 
-  ends-alike : (a : Answer) → standsFor a f ≡ standsFor a e → FlagAlike (ends a s) (ends a s)
-  ends-alike a q = record { same = refl; says = q; after = record { state = refl; decoded = refl; held = kept-alike } }
+  ends-alike : (a : Answer) → standsFor a f ≡ standsFor a e → FlagAlike (step5End a s) (step5End a s)
+  ends-alike a q = record { same = refl; says = q; after = record { state = refl; decoded = refl; held = held-after-alike } }
 
-  hold-alike : FlagAlike (hold s) (hold s)
-  hold-alike = record { same = refl; says = refl; after = record { state = refl; decoded = refl; held = turned (s .second) (alike .decoded) } }
+  hold-alike : FlagAlike (step5Hold s) (step5Hold s)
+  hold-alike = record { same = refl; says = refl; after = record { state = refl; decoded = refl; held = turned (s .turn) (alike .decoded) } }
     where
       turned : (c : Bool) → take (s .decoded) (areaOf c f) ≡ take (s .decoded) (areaOf c e)
           → take (s .decoded) (areaOf (not (not c)) f) ≡ take (s .decoded) (areaOf (not (not c)) e)
       turned true q = q
       turned false q = q
 
-  whole-alike : (n : ℕ) → n ≤ s .decoded → FlagAlike (whole g s (work e .area) n) (whole g s (work f .area) n)
-  unfolding whole
-  whole-alike n h =
-      let m = n - g .check .octets in
+  without-phantom-alike : (n : ℕ) → n ≤ s .decoded → FlagAlike (step5WithoutPhantom g s (work e .area) n) (step5WithoutPhantom g s (work f .area) n)
+  unfolding step5WithoutPhantom
+  without-phantom-alike n h =
+      let m = n - g .check .fcsLength in
       let area : Bool → List ℕ = λ c. areaOf c e in
       let q : take n (work f .area) ≡ take n (work e .area) = earlier n (s .decoded) (work e .area) (work f .area) h (alike .decoded) in
       branch₂ FlagAlike (ltb n (leastFrame g)) (λ _. ends-alike (refused 13) refl)
       (λ _.
       rw (ap (good (g .check)) q)
       (branch₂ FlagAlike (good (g .check) (take n (work e .area)))
-      (λ _. ends-alike (packet (s .second) m) (ap some (earlier m (s .decoded) (work e .area) (work f .area) (omega arith) (alike .decoded))))
+      (λ _. ends-alike (packet (s .turn) m) (ap some (earlier m (s .decoded) (work e .area) (work f .area) (omega arith) (alike .decoded))))
       (λ _. ends-alike (refused 14) refl)))
 
-  close-alike : FlagAlike (close g s (work e .area)) (close g s (work f .area))
-  unfolding close
-  close-alike =
+  step5-alike : FlagAlike (step5Flag g s (work e .area)) (step5Flag g s (work f .area))
+  unfolding step5Flag
+  step5-alike =
       branch₂ FlagAlike (not (eqb (s .refusal) 0)) (λ _. ends-alike (refused (s .refusal)) refl)
-      (λ _. branch₂ FlagAlike (isNone (s .last)) (λ _. ends-alike (refused 9) refl)
+      (λ _. branch₂ FlagAlike (isNoBlock (s .last)) (λ _. ends-alike (refused 9) refl)
       (λ _. branch₂ FlagAlike (ltb 0 (s .left)) (λ _. branch₂ FlagAlike (g .pre) (λ _. hold-alike) (λ _. ends-alike (refused 11) refl))
-      (λ _. branch₂ FlagAlike (isD0 (s .last)) (λ _. ends-alike (refused 12) refl) (λ _. whole-alike (s .decoded - 1) (omega arith)))))
+      (λ _. branch₂ FlagAlike (isD0 (s .last)) (λ _. ends-alike (refused 12) refl) (λ _. without-phantom-alike (s .decoded - 1) (omega arith)))))
 
   flag-alike : FlagAlike (atFlag g s (work e .area)) (atFlag g s (work f .area))
   unfolding atFlag
   flag-alike =
-      branch₂ FlagAlike (s .framed) (λ _. close-alike) (λ _. record { same = refl; says = refl; after = alike })
+      branch₂ FlagAlike (s .framed) (λ _. step5-alike) (λ _. record { same = refl; says = refl; after = alike })
 
 -- ---- the calls
 
@@ -242,7 +241,7 @@ stands-by-areas (held n b) s r first second = refl
 stands-by-areas (refused n) s r first second = refl
 
 -- a state out of bounds
-refused-3 : (e : Receiving) → Lent e → inBounds (agreed (e .state .settings)) (e .state) ≡ false → (x : ℕ) → receive e x ≡ record { report = refused 3; after = e }
+refused-3 : (e : ReceiverEnd) → AreasLongEnough e → inBounds (agreed (e .state .settings)) (e .state) ≡ false → (x : ℕ) → receive e x ≡ record { report = refused 3; after = e }
 unfolding receive
 refused-3 e l out x =
     rw (
@@ -252,14 +251,14 @@ refused-3 e l out x =
     )
 
 record Pair (h k : Receive) : Type 0 where
-  tell : told h ≡ told k
+  tell : reportAndPacket h ≡ reportAndPacket k
   after : Alike (h .after) (k .after)
 
 module _ (s : Receiver) (a₁ a₂ b₁ b₂ : List ℕ) where
-  abbrev one : Receiving
+  abbrev one : ReceiverEnd
   one = record { state = s; first = a₁; second = a₂ }
 
-  abbrev two : Receiving
+  abbrev two : ReceiverEnd
   two = record { state = s; first = b₁; second = b₂ }
 
   abbrev g : Agreed
@@ -277,10 +276,10 @@ module _ (s : Receiver) (a₁ a₂ b₁ b₂ : List ℕ) where
 
     pair-other : Ready g one → Ready g two → (x : ℕ) → (x ≡ flag → ⊥) → Pair (receive one x) (receive two x)
     pair-other z y x h =
-        let k = inside-both g s a₁ a₂ b₁ b₂ alike (area-long g one z (s .second)) (area-long g two y (s .second)) (z .bounds) (fromLine x) in
+        let k = steps-both g s a₁ a₂ b₁ b₂ alike (area-long g one z (s .turn)) (area-long g two y (s .turn)) (z .bounds) (fromLine x) in
         rw (receive-other g one z x h, receive-other g two y x h) (record { tell = refl; after = k .after })
 
-    pair : Lent one → Lent two → (x : ℕ) → Pair (receive one x) (receive two x)
+    pair : AreasLongEnough one → AreasLongEnough two → (x : ℕ) → Pair (receive one x) (receive two x)
     pair l m x =
         decide (inBounds g s)
         (λ k.
@@ -290,7 +289,7 @@ module _ (s : Receiver) (a₁ a₂ b₁ b₂ : List ℕ) where
         (λ k. rw (refused-3 one l k x, refused-3 two m k x) (record { tell = refl; after = alike }))
 
 -- areas that are long enough stay so
-lent-on : (e : Receiving) (x : ℕ) → Lent e → Lent (receive e x .after)
+lent-on : (e : ReceiverEnd) (x : ℕ) → AreasLongEnough e → AreasLongEnough (receive e x .after)
 lent-on e x l =
     let t = agreed (e .state .settings) in
     decide (inBounds t (e .state))
@@ -303,9 +302,9 @@ pub areas-aside : AreasAside
 unfolding receives
 areas-aside e f l m k [] = refl
 areas-aside e f l m k (x ∷ xs) =
-    let f₁ : Receiving = record { state = e .state; first = f .first; second = f .second } in
+    let f₁ : ReceiverEnd = record { state = e .state; first = f .first; second = f .second } in
     let same : f ≡ f₁ = ap (λ (s : Receiver). record { state = s; first = f .first; second = f .second }) (k .state) in
     let k₁ : Alike e f₁ = subst (Alike e) same k in
-    let m₁ : Lent f₁ = subst Lent same m in
+    let m₁ : AreasLongEnough f₁ = subst AreasLongEnough same m in
     let p = pair (e .state) (e .first) (e .second) (f .first) (f .second) k₁ l m₁ x in
     rw same (rw (p .tell, areas-aside (receive e x .after) (receive f₁ x .after) (lent-on e x l) (lent-on f₁ x m₁) (p .after) xs))

@@ -1,5 +1,4 @@
 -- The receiver in step with a D: what it has decoded is D's beginning, and each octet that a sender may send of D moves it on.
--- Assumes nothing.
 use mathlib.Core.Path.{_≡_, refl, sym, ap, subst, _∙_}
 use mathlib.Core.Bool.{Bool, true, false, cond, not, _&&_}
 use mathlib.Core.List.{List, [], _∷_}
@@ -14,24 +13,24 @@ use Rattle.fcs.specs.CheckSequence.{Sound, fcs, good}
 use Rattle.fcs.proofs.Laws.{fcs-length, good-frame}
 use Rattle.cobs.specs.CodeBlocks.{frame, withPhantom, flag, meaning}
 use Rattle.cobs.specs.declared.Choice.{Choice}
-use Rattle.cobs.specs.declared.Meaning.the-variants.{Counts}
+use Rattle.cobs.specs.declared.Meaning.the-variants.{InTable}
 use Rattle.cobs.proofs.Tests.{branch, decide}
 use Rattle.cobs.proofs.Table.{Row, plain-row, row-read, numbers}
 use Rattle.cobs.proofs.Chosen.{Stands}
 use Rattle.cobs.proofs.Frame.{zeros-from}
 use Rattle.link.specs.Agreed.{Agreed, leastPacket, leastFrame, mostDecoded}
 use Rattle.link.specs.Answers.{held, packet, refused}
-use Rattle.link.specs.Receiver.{Fragment, octets, LastBlock, noBlock, full, other, Receiver, Working, Receiving, due, begin, isNone, isD0, write, wrote, decode, dataOctet, blockOf, byMeaning, code, takeUp, resume, firstOctet, inside, isHeld, ends, hold, whole, close, atFlag, areaOf, work, putBack, flagged, receive}
-use Rattle.link.specs.Runs.{packetIn, IsHeld}
+use Rattle.link.specs.Receiver.{Fragment, holds, LastBlock, noBlock, blockD0, otherBlock, Receiver, Working, ReceiverEnd, withDue, step2BeginBlock, isNoBlock, isD0, write, step3Write, step3Decode, step3Data, lastBlock, step2ByMeaning, step2Code, step1ResumeHeld, step1D1, step1FirstOctet, steps1To4, isHeld, step5End, step5Hold, step5WithoutPhantom, step5Flag, atFlag, areaOf, work, putBack, flagged, receive}
+use Rattle.link.specs.Runs.{packetIn, HeldReport}
 use Rattle.link.proofs.Tests.{if-so, if-not, true-false}
 use Rattle.link.proofs.Write.{length-write, take-write}
-use Rattle.link.proofs.ReceiverBounds.{Outside, Bounds, Fit, Ready, receive-flag}
+use Rattle.link.proofs.ReceiverBounds.{Bounds, Fit, Ready, receive-flag, steps-data}
 
 -- Before any block, or after D0, some of D is left behind what is due of the block.
 abbrev pub Ahead : LastBlock → ℕ → ℕ → Type 0
 Ahead noBlock n rest = (n ≡ 0) × (0 < rest)
-Ahead full n rest = n < rest
-Ahead other n rest = Unit {0}
+Ahead blockD0 n rest = n < rest
+Ahead otherBlock n rest = Unit {0}
 
 -- pos octets of d are decoded, with n data octets left in the block and z zeros due
 pub record Follows (d : List ℕ) (pos n z : ℕ) (w : Working) : Type 0 where
@@ -46,7 +45,7 @@ pub record Follows (d : List ℕ) (pos n z : ℕ) (w : Working) : Type 0 where
 pub record Keeps (r r′ : Receiver) : Type 0 where
   pub held·is : r′ .held ≡ r .held
   pub resumed·is : r′ .resumed ≡ r .resumed
-  pub turn·is : r′ .second ≡ r .second
+  pub turn·is : r′ .turn ≡ r .turn
 
 pub record Moved (d : List ℕ) (pos n z : ℕ) (w w′ : Working) : Type 0 where
   pub follows : Follows d pos n z w′
@@ -61,51 +60,41 @@ pub record BlockAt (d : List ℕ) (pos n z : ℕ) : Type 0 where
 
 module _ (g : Agreed) where
   -- a code where no data is left, else data
-  pub inside-code : (w : Working) (x : ℕ) → w .state .refusal ≡ 0 → w .state .left ≡ 0 → (x ≡ 0xD1 → ⊥) → (x ≡ 0xFF → ⊥) → inside g w x ≡ code g w x
-  unfolding inside firstOctet
-  inside-code w x clean none·left h k =
+  pub steps-code : (w : Working) (x : ℕ) → w .state .refusal ≡ 0 → w .state .left ≡ 0 → (x ≡ 0xD1 → ⊥) → (x ≡ 0xFF → ⊥) → steps1To4 g w x ≡ step2Code g w x
+  unfolding steps1To4 step1FirstOctet
+  steps-code w x clean none·left h k =
       if-not _ _ _ (ap not (eq-eqb (w .state .refusal) 0 clean))
       ∙ decide (not (w .state .framed))
       (λ e. if-so _ _ _ e ∙ (if-not _ _ _ (ne-eqb x 0xFF k) ∙ if-not _ _ _ (ne-eqb x 0xD1 h)))
       (λ e. if-not _ _ _ e ∙ if-not _ _ _ (le-ltb 0 (w .state .left) (omega arith)))
 
-  in-frame : (w : Working) → Fit g w → 0 < w .state .left → w .state .framed ≡ true
-  in-frame w f more =
-      decide (w .state .framed) (λ e. e) (λ e. absurd (let o : Outside (w .state) = f .bounds .out e in omega (arith, o .left·0)))
-
-  inside-data : (w : Working) (x : ℕ) → Fit g w → w .state .refusal ≡ 0 → 0 < w .state .left → inside g w x ≡ dataOctet g w x
-  unfolding inside
-  inside-data w x f clean more =
-      if-not _ _ _ (ap not (eq-eqb (w .state .refusal) 0 clean))
-      ∙ (if-not _ _ _ (ap not (in-frame w f more)) ∙ if-so _ _ _ (lt-ltb 0 (w .state .left) more))
-
-  pub code-is : (w : Working) (c n z : ℕ) → meaning (g .zxe) c ≡ Counts n z → code g w c ≡ byMeaning g w c (Counts n z)
-  unfolding code
-  code-is w c n z e = ap (byMeaning g w c) e
+  pub code-is : (w : Working) (c n z : ℕ) → meaning (g .zxe) c ≡ InTable n z → step2Code g w c ≡ step2ByMeaning g w c (InTable n z)
+  unfolding step2Code
+  code-is w c n z e = ap (step2ByMeaning g w c) e
 
 -- ---- octets of D are decoded
 
 module _ (g : Agreed) (d : List ℕ) (depth : length d ≤ mostDecoded g) where
   module _ (pos : ℕ) (xs : List ℕ) (w : Working) (long : mostDecoded g ≤ length (w .area)) (count : w .state .decoded ≡ pos)
       (same : take pos (w .area) ≡ take pos d) (fits : pos + length xs ≤ length d) (next : take (length xs) (drop pos d) ≡ xs) where
-    decodes : decode g xs w ≡ wrote xs w
-    unfolding decode
+    decodes : step3Decode g xs w ≡ step3Write xs w
+    unfolding step3Decode
     decodes = if-not _ _ _ (le-ltb (mostDecoded g) (w .state .decoded + length xs) (omega arith))
 
-    wrote-same : take (pos + length xs) (wrote xs w .area) ≡ take (pos + length xs) d
-    wrote-same =
+    write-same : take (pos + length xs) (step3Write xs w .area) ≡ take (pos + length xs) d
+    write-same =
         ap (λ (n : ℕ). take (pos + length xs) (write (w .area) n xs)) count
         ∙ (take-write (w .area) pos xs (omega arith) ∙ rw same (rw (take-add pos (length xs) d, next)))
 
   -- ---- a code
 
   module _ (pos : ℕ) (w : Working) (f : Fit g w) (fo : Follows d pos 0 0 w) where
-    code-opens : (c n z : ℕ) → Row (g .zxe) c n z → (n ≡ 0 → ⊥) → Ahead (blockOf c) (n + z) (length d - pos) → Moved d pos n z w (inside g w c)
-    unfolding byMeaning
+    code-opens : (c n z : ℕ) → Row (g .zxe) c n z → (n ≡ 0 → ⊥) → Ahead (lastBlock c) (n + z) (length d - pos) → Moved d pos n z w (steps1To4 g w c)
+    unfolding step2ByMeaning
     code-opens c n z row h ahd =
         let v = numbers row in
-        let eq : inside g w c ≡ record { state = begin (blockOf c) n z (w .state); area = w .area } =
-        inside-code g w c (fo .clean) (fo .left·is) (v .code-used) (λ q. omega (arith, v .code-below))
+        let eq : steps1To4 g w c ≡ record { state = step2BeginBlock (lastBlock c) n z (w .state); area = w .area } =
+        steps-code g w c (fo .clean) (fo .left·is) (v .code-used) (λ q. omega (arith, v .code-below))
         ∙ (code-is g w c n z (row-read row) ∙ if-not _ _ _ (ne-eqb n 0 h)) in
         rw eq
         (record {
@@ -114,42 +103,42 @@ module _ (g : Agreed) (d : List ℕ) (depth : length d ≤ mostDecoded g) where
         })
 
     -- 02, before a cut
-    pub code-two : Moved d pos 1 1 w (inside g w 0x02)
+    pub code-two : Moved d pos 1 1 w (steps1To4 g w 0x02)
     code-two = code-opens 0x02 1 1 (plain-row 1 (omega arith)) (λ q. omega arith) tt
 
     module _ (c : Choice) (ch : Stands (g .zxe) (drop pos d) c) where
-      no-D0 : c .octets ≡ 0 → c .code ≡ 0xD0 → ⊥
+      no-D0 : c .nonzeros ≡ 0 → c .code ≡ 0xD0 → ⊥
       no-D0 h q = let v = numbers (ch .row) in omega (arith, v .covers, v .full-zeros q)
 
-      pub code-some : (c .octets ≡ 0 → ⊥) → Moved d pos (c .octets) (c .zeros) w (inside g w (c .code))
+      pub code-some : (c .nonzeros ≡ 0 → ⊥) → Moved d pos (c .nonzeros) (c .zeros) w (steps1To4 g w (c .code))
       code-some h =
-          code-opens (c .code) (c .octets) (c .zeros) (ch .row) h
-          (branch (λ b. Ahead b (c .octets + c .zeros) (length d - pos)) (eqb (c .code) 0xD0)
+          code-opens (c .code) (c .nonzeros) (c .zeros) (ch .row) h
+          (branch (λ b. Ahead b (c .nonzeros + c .zeros) (length d - pos)) (eqb (c .code) 0xD0)
           (λ e. omega (arith, numbers (ch .row) .full-zeros (eqb-true (c .code) 0xD0 e), ch .more, length-drop pos d))
           (λ _. tt))
 
-      pub code-zero : c .octets ≡ 0 → pos ≤ length d → Moved d (pos + c .zeros) 0 0 w (inside g w (c .code))
-      unfolding byMeaning
+      pub code-zero : c .nonzeros ≡ 0 → pos ≤ length d → Moved d (pos + c .zeros) 0 0 w (steps1To4 g w (c .code))
+      unfolding step2ByMeaning
       code-zero h within =
           let v = numbers (ch .row) in
           let z = c .zeros in
-          let w₁ : Working = record { state = begin (blockOf (c .code)) 0 0 (w .state); area = w .area } in
+          let w₁ : Working = record { state = step2BeginBlock (lastBlock (c .code)) 0 0 (w .state); area = w .area } in
           let xs : List ℕ = replicate z 0 in
           let size : length xs ≡ z = length-replicate z 0 in
           let fits : pos + z ≤ length d = omega (arith, ch .inside, length-drop pos d) in
           let next : take (length xs) (drop pos d) ≡ xs =
           rw size (zeros-from d pos z fits (λ i k. sym (getD-drop pos d i 0) ∙ ch .zero i (omega arith) (omega arith))) in
-          let eq : inside g w (c .code) ≡ wrote xs w₁ =
-          inside-code g w (c .code) (fo .clean) (fo .left·is) (v .code-used) (λ q. omega (arith, v .code-below))
-          ∙ (code-is g w (c .code) (c .octets) z (row-read (ch .row))
-          ∙ (if-so _ _ _ (eq-eqb (c .octets) 0 h) ∙ decodes pos xs w₁ (f .long) (fo .count) (fo .same) (omega arith) next)) in
+          let eq : steps1To4 g w (c .code) ≡ step3Write xs w₁ =
+          steps-code g w (c .code) (fo .clean) (fo .left·is) (v .code-used) (λ q. omega (arith, v .code-below))
+          ∙ (code-is g w (c .code) (c .nonzeros) z (row-read (ch .row))
+          ∙ (if-so _ _ _ (eq-eqb (c .nonzeros) 0 h) ∙ decodes pos xs w₁ (f .long) (fo .count) (fo .same) (omega arith) next)) in
           rw eq
           (record {
             follows =
                 record {
                   clean = fo .clean;
                   count = omega (arith, fo .count);
-                  same = subst (λ (n : ℕ). take (pos + n) (wrote xs w₁ .area) ≡ take (pos + n) d) size (wrote-same pos xs w₁ (f .long) (fo .count) (fo .same) (omega arith) next);
+                  same = subst (λ (n : ℕ). take (pos + n) (step3Write xs w₁ .area) ≡ take (pos + n) d) size (write-same pos xs w₁ (f .long) (fo .count) (fo .same) (omega arith) next);
                   left·is = refl;
                   zeros·is = refl;
                   ahead = branch (λ b. Ahead b 0 (length d - (pos + z))) (eqb (c .code) 0xD0) (λ e. absurd (no-D0 h (eqb-true (c .code) 0xD0 e))) (λ _. tt);
@@ -161,8 +150,8 @@ module _ (g : Agreed) (d : List ℕ) (depth : length d ≤ mostDecoded g) where
 
 ahead-on : (b : LastBlock) (n m k l : ℕ) → 0 < n → (n < m → k < l) → Ahead b n m → Ahead b k l
 ahead-on noBlock n m k l h f a = absurd (omega arith)
-ahead-on full n m k l h f a = f a
-ahead-on other n m k l h f a = tt
+ahead-on blockD0 n m k l h f a = f a
+ahead-on otherBlock n m k l h f a = tt
 
 module _ (g : Agreed) (d : List ℕ) (depth : length d ≤ mostDecoded g) (pos : ℕ) (w : Working) (f : Fit g w) where
   module _ (n z : ℕ) (fo : Follows d pos n z w) (more : 0 < n) (fits : pos + (n + z) ≤ length d) where
@@ -173,18 +162,18 @@ module _ (g : Agreed) (d : List ℕ) (depth : length d ≤ mostDecoded g) (pos :
     one = rw (drop-cons d pos 0 (omega arith))
 
     -- it is not refused, and stands in the area
-    data-is : inside g w x ≡ cond (eqb (w .state .left) 1)
-        (decode g (replicate (w .state .zeros) 0) (wrote (x ∷ []) (record { state = due 0 0 (w .state); area = w .area })))
-        (wrote (x ∷ []) (record { state = due (w .state .left - 1) (w .state .zeros) (w .state); area = w .area }))
-    unfolding dataOctet
+    data-is : steps1To4 g w x ≡ cond (eqb (w .state .left) 1)
+        (step3Decode g (replicate (w .state .zeros) 0) (step3Write (x ∷ []) (record { state = withDue 0 0 (w .state); area = w .area })))
+        (step3Write (x ∷ []) (record { state = withDue (w .state .left - 1) (w .state .zeros) (w .state); area = w .area }))
+    unfolding step3Data
     data-is =
-        inside-data g w x f (fo .clean) (omega (arith, fo .left·is))
+        steps-data g w x (f .bounds) (fo .clean) (omega (arith, fo .left·is))
         ∙ if-not _ _ _ (le-ltb (mostDecoded g) (w .state .decoded + 1) (omega (arith, fo .count)))
 
-    stored : (r : Receiver) → r .decoded ≡ pos → take (pos + 1) (wrote (x ∷ []) (record { state = r; area = w .area }) .area) ≡ take (pos + 1) d
-    stored r e = wrote-same g d depth pos (x ∷ []) (record { state = r; area = w .area }) (f .long) e (fo .same) (omega arith) one
+    stored : (r : Receiver) → r .decoded ≡ pos → take (pos + 1) (step3Write (x ∷ []) (record { state = r; area = w .area }) .area) ≡ take (pos + 1) d
+    stored r e = write-same g d depth pos (x ∷ []) (record { state = r; area = w .area }) (f .long) e (fo .same) (omega arith) one
 
-    pub data-more : (n ≡ 1 → ⊥) → Moved d (pos + 1) (n - 1) z w (inside g w x)
+    pub data-more : (n ≡ 1 → ⊥) → Moved d (pos + 1) (n - 1) z w (steps1To4 g w x)
     data-more h =
         let r = w .state in
         rw (data-is ∙ if-not _ _ _ (ne-eqb (r .left) 1 (λ q. h (sym (fo .left·is) ∙ q))))
@@ -193,7 +182,7 @@ module _ (g : Agreed) (d : List ℕ) (depth : length d ≤ mostDecoded g) (pos :
               record {
                 clean = fo .clean;
                 count = omega (arith, fo .count);
-                same = stored (due (r .left - 1) (r .zeros) r) (fo .count);
+                same = stored (withDue (r .left - 1) (r .zeros) r) (fo .count);
                 left·is = omega (arith, fo .left·is);
                 zeros·is = fo .zeros·is;
                 ahead = ahead-on (r .last) (n + z) (length d - pos) (n - 1 + z) (length d - (pos + 1)) (omega arith) (λ k. omega arith) (fo .ahead);
@@ -202,14 +191,14 @@ module _ (g : Agreed) (d : List ℕ) (depth : length d ≤ mostDecoded g) (pos :
         })
 
     -- with the last, the zeros of the block stand behind it
-    pub data-last : n ≡ 1 → ((i : ℕ) → i < z → getD d (pos + 1 + i) 0 ≡ 0) → Moved d (pos + (1 + z)) 0 0 w (inside g w x)
+    pub data-last : n ≡ 1 → ((i : ℕ) → i < z → getD d (pos + 1 + i) 0 ≡ 0) → Moved d (pos + (1 + z)) 0 0 w (steps1To4 g w x)
     data-last h all =
         let r = w .state in
-        let w₁ : Working = wrote (x ∷ []) (record { state = due 0 0 r; area = w .area }) in
+        let w₁ : Working = step3Write (x ∷ []) (record { state = withDue 0 0 r; area = w .area }) in
         let xs : List ℕ = replicate (r .zeros) 0 in
         let size : length xs ≡ z = length-replicate (r .zeros) 0 ∙ fo .zeros·is in
         let count : w₁ .state .decoded ≡ pos + 1 = omega (arith, fo .count) in
-        let same : take (pos + 1) (w₁ .area) ≡ take (pos + 1) d = stored (due 0 0 r) (fo .count) in
+        let same : take (pos + 1) (w₁ .area) ≡ take (pos + 1) d = stored (withDue 0 0 r) (fo .count) in
         let long : mostDecoded g ≤ length (w₁ .area) =
         omega (arith, f .long, length-write (w .area) (r .decoded) (x ∷ []) (omega (arith, f .long, fo .count))) in
         let next : take (length xs) (drop (pos + 1) d) ≡ xs =
@@ -222,7 +211,7 @@ module _ (g : Agreed) (d : List ℕ) (depth : length d ≤ mostDecoded g) (pos :
               record {
                 clean = fo .clean;
                 count = omega (arith, fo .count);
-                same = subst (λ (k : ℕ). take k (wrote xs w₁ .area) ≡ take k d) at (wrote-same g d depth (pos + 1) xs w₁ long count same fits₁ next);
+                same = subst (λ (k : ℕ). take k (step3Write xs w₁ .area) ≡ take k d) at (write-same g d depth (pos + 1) xs w₁ long count same fits₁ next);
                 left·is = refl;
                 zeros·is = refl;
                 ahead = ahead-on (r .last) (n + z) (length d - pos) 0 (length d - (pos + (1 + z))) (omega arith) (λ k. omega arith) (fo .ahead);
@@ -240,10 +229,10 @@ pub aside-back : (b : Bool) (first second area : List ℕ) → cond (not b) (con
 aside-back true first second area = refl
 aside-back false first second area = refl
 
-pub follows-back : (d : List ℕ) (pos n z : ℕ) (e : Receiving) (w : Working) → w .state .second ≡ e .state .second → Follows d pos n z w
+pub follows-back : (d : List ℕ) (pos n z : ℕ) (e : ReceiverEnd) (w : Working) → w .state .turn ≡ e .state .turn → Follows d pos n z w
     → Follows d pos n z (work (putBack e w))
 follows-back d pos n z e w turn fo =
-    let b = e .state .second in
+    let b = e .state .turn in
     record {
       clean = fo .clean;
       count = fo .count;
@@ -258,14 +247,14 @@ follows-back d pos n z e w turn fo =
 -- ---- what is held
 
 -- pos octets of d are held
-pub record Holding (d : List ℕ) (pos : ℕ) (e : Receiving) : Type 0 where
+pub record Holding (d : List ℕ) (pos : ℕ) (e : ReceiverEnd) : Type 0 where
   pub plain : e .state .resumed ≡ false
-  pub held·is : e .state .held ≡ octets pos
-  pub same : take pos (areaOf (not (e .state .second)) e) ≡ take pos d
+  pub held·is : e .state .held ≡ holds pos
+  pub same : take pos (areaOf (not (e .state .turn)) e) ≡ take pos d
 
-pub keeps-holding : (d : List ℕ) (pos : ℕ) (e : Receiving) (w : Working) → Keeps (e .state) (w .state) → Holding d pos e → Holding d pos (putBack e w)
+pub keeps-holding : (d : List ℕ) (pos : ℕ) (e : ReceiverEnd) (w : Working) → Keeps (e .state) (w .state) → Holding d pos e → Holding d pos (putBack e w)
 keeps-holding d pos e w k h =
-    let b = e .state .second in
+    let b = e .state .turn in
     record {
       plain = k .resumed·is ∙ h .plain;
       held·is = k .held·is ∙ h .held·is;
@@ -277,20 +266,20 @@ keeps-holding d pos e w k h =
 -- ---- a flag
 
 -- D is covered: the last block was neither none nor D0
-covered : (b : LastBlock) (n rest : ℕ) → rest ≡ 0 → Ahead b n rest → (isNone b ≡ false) × (isD0 b ≡ false)
+covered : (b : LastBlock) (n rest : ℕ) → rest ≡ 0 → Ahead b n rest → (isNoBlock b ≡ false) × (isD0 b ≡ false)
 covered noBlock n rest e a = absurd (omega arith)
-covered full n rest e a = absurd (omega arith)
-covered other n rest e a = (refl, refl)
+covered blockD0 n rest e a = absurd (omega arith)
+covered otherBlock n rest e a = (refl, refl)
 
 -- inside a block: there was one
-opened-block : (b : LastBlock) (n rest : ℕ) → 0 < n → Ahead b n rest → isNone b ≡ false
-opened-block noBlock n rest h a = absurd (omega arith)
-opened-block full n rest h a = refl
-opened-block other n rest h a = refl
+block-open : (b : LastBlock) (n rest : ℕ) → 0 < n → Ahead b n rest → isNoBlock b ≡ false
+block-open noBlock n rest h a = absurd (omega arith)
+block-open blockD0 n rest h a = refl
+block-open otherBlock n rest h a = refl
 
-framed-last : (g : Agreed) (r : Receiver) → Bounds g r → isNone (r .last) ≡ false → r .framed ≡ true
+framed-last : (g : Agreed) (r : Receiver) → Bounds g r → isNoBlock (r .last) ≡ false → r .framed ≡ true
 framed-last g r b h =
-    decide (r .framed) (λ e. e) (λ e. true-false (sym (ap isNone (b .out e .last·0)) ∙ h))
+    decide (r .framed) (λ e. e) (λ e. true-false (sym (ap isNoBlock (b .out e .last·0)) ∙ h))
 
 -- the frame's octets in the work area
 decoded-frame : (f area : List ℕ) → take (length f + 1) area ≡ take (length f + 1) (withPhantom f) → take (length f) area ≡ f
@@ -298,21 +287,21 @@ decoded-frame f area e =
     sym (take-take (length f) (length f + 1) area (omega arith))
     ∙ (ap (take (length f)) e ∙ (take-take (length f) (length f + 1) (withPhantom f) (omega arith) ∙ take-append-seam f (0 ∷ [])))
 
-pub frame-long : (g : Agreed) (p : List ℕ) → length (frame (g .check) p) ≡ length p + g .check .octets
+pub frame-long : (g : Agreed) (p : List ℕ) → length (frame (g .check) p) ≡ length p + g .check .fcsLength
 frame-long g p = length-append p (fcs (g .check) p) ∙ ap (λ (n : ℕ). length p + n) (fcs-length (g .check) p)
 
-module _ (g : Agreed) (e : Receiving) (z : Ready g e) where
+module _ (g : Agreed) (e : ReceiverEnd) (z : Ready g e) where
   abbrev r : Receiver
   r = e .state
 
   -- step 5 with no refusal remembered
-  close-clean : r .refusal ≡ 0 → isNone (r .last) ≡ false
+  step5-clean : r .refusal ≡ 0 → isNoBlock (r .last) ≡ false
       → receive e flag
       ≡ flagged e
-      (cond (ltb 0 (r .left)) (cond (g .pre) (hold r) (ends (refused 11) r))
-      (cond (isD0 (r .last)) (ends (refused 12) r) (whole g r (work e .area) (r .decoded - 1))))
-  unfolding atFlag close
-  close-clean clean h =
+      (cond (ltb 0 (r .left)) (cond (g .pre) (step5Hold r) (step5End (refused 11) r))
+      (cond (isD0 (r .last)) (step5End (refused 12) r) (step5WithoutPhantom g r (work e .area) (r .decoded - 1))))
+  unfolding atFlag step5Flag
+  step5-clean clean h =
       receive-flag g e z
       ∙ ap (flagged e)
       (if-so _ _ _ (framed-last g r (z .bounds) h) ∙ (if-not _ _ _ (ap not (eq-eqb (r .refusal) 0 clean)) ∙ if-not _ _ _ h))
@@ -320,23 +309,23 @@ module _ (g : Agreed) (e : Receiving) (z : Ready g e) where
   -- a closing flag delivers the packet
   module _ (p : List ℕ) (sound : Sound (g .check)) (big : leastPacket ≤ length p)
       (fo : Follows (withPhantom (frame (g .check) p)) (length (frame (g .check) p) + 1) 0 0 (work e)) where
-    delivers : receive e flag ≡ flagged e (ends (packet (r .second) (length p)) r)
-    unfolding whole
+    delivers : receive e flag ≡ flagged e (step5End (packet (r .turn) (length p)) r)
+    unfolding step5WithoutPhantom
     delivers =
         let f = frame (g .check) p in
         let size : length (withPhantom f) ≡ length f + 1 = length-append f (0 ∷ []) in
-        let long : length f ≡ length p + g .check .octets = frame-long g p in
+        let long : length f ≡ length p + g .check .fcsLength = frame-long g p in
         let last = covered (r .last) 0 (length (withPhantom f) - (length f + 1)) (omega arith) (fo .ahead) in
         let n : r .decoded - 1 ≡ length f = omega (arith, fo .count) in
         let ok : good (g .check) (take (length f) (work e .area)) ≡ true =
         rw (decoded-frame f (work e .area) (fo .same)) (good-frame (g .check) sound p) in
-        close-clean (fo .clean) (last .0)
+        step5-clean (fo .clean) (last .0)
         ∙ ap (flagged e)
         (if-not _ _ _ (le-ltb 0 (r .left) (omega (arith, fo .left·is)))
         ∙ (if-not _ _ _ (last .1)
-        ∙ (ap (whole g r (work e .area)) n
+        ∙ (ap (step5WithoutPhantom g r (work e .area)) n
         ∙ (if-not _ _ _ (le-ltb (length f) (leastFrame g) (omega arith))
-        ∙ (if-so _ _ _ ok ∙ ap (λ (k : ℕ). ends (packet (r .second) k) r) (omega arith))))))
+        ∙ (if-so _ _ _ ok ∙ ap (λ (k : ℕ). step5End (packet (r .turn) k) r) (omega arith))))))
 
     delivered : take (length p) (work e .area) ≡ p
     delivered =
@@ -353,16 +342,16 @@ module _ (g : Agreed) (e : Receiving) (z : Ready g e) where
 
   -- a flag inside a block leaves the fragment held
   module _ (d : List ℕ) (pos n y : ℕ) (fo : Follows d pos n y (work e)) (more : 0 < n) (pre : g .pre ≡ true) where
-    breaks-off : receive e flag ≡ flagged e (hold r)
+    breaks-off : receive e flag ≡ flagged e (step5Hold r)
     breaks-off =
-        close-clean (fo .clean) (opened-block (r .last) (n + y) (length d - pos) (omega arith) (fo .ahead))
+        step5-clean (fo .clean) (block-open (r .last) (n + y) (length d - pos) (omega arith) (fo .ahead))
         ∙ ap (flagged e) (if-so _ _ _ (lt-ltb 0 (r .left) (omega (arith, fo .left·is))) ∙ if-so _ _ _ pre)
 
-    pub breaks-held : IsHeld pos (receive e flag .report)
+    pub breaks-held : HeldReport pos (receive e flag .report)
     breaks-held = rw breaks-off (record { replaced = not (r .resumed) && isHeld (r .held); is = ap (λ (k : ℕ). held k (not (r .resumed) && isHeld (r .held))) (fo .count) })
 
     pub breaks-holding : Holding d pos (receive e flag .after)
-    breaks-holding = rw breaks-off (record { plain = refl; held·is = ap octets (fo .count); same = not-not (r .second) (fo .same) })
+    breaks-holding = rw breaks-off (record { plain = refl; held·is = ap holds (fo .count); same = not-not (r .turn) (fo .same) })
       where
         not-not : (b : Bool) → take pos (areaOf b e) ≡ take pos d → take pos (areaOf (not (not b)) e) ≡ take pos d
         not-not true q = q
@@ -383,25 +372,25 @@ module _ (g : Agreed) (e : Receiving) (z : Ready g e) where
         ahead = subst (λ (b : LastBlock). Ahead b 0 (length d - 0)) (sym (o .last·0)) (refl, omega arith);
       }
 
-  -- D1 takes up what is held
-  resume-is : (pos : ℕ) → r .held ≡ octets pos → g .pre ≡ true → resume g r ≡ takeUp (octets pos) r
-  unfolding resume
-  resume-is pos h pre = if-so _ _ _ pre ∙ ap (λ (k : Fragment). takeUp k r) h
+  -- D1 resumes what is held
+  resume-is : (pos : ℕ) → r .held ≡ holds pos → g .pre ≡ true → step1D1 g r ≡ step1ResumeHeld (holds pos) r
+  unfolding step1D1
+  resume-is pos h pre = if-so _ _ _ pre ∙ ap (λ (k : Fragment). step1ResumeHeld k r) h
 
   pub resumes : (d : List ℕ) (pos : ℕ) → Holding d pos e → r .framed ≡ false → g .pre ≡ true → pos < length d
-      → Follows d pos 0 0 (work (putBack e (inside g (work e) 0xD1)))
-  unfolding inside firstOctet takeUp
+      → Follows d pos 0 0 (work (putBack e (steps1To4 g (work e) 0xD1)))
+  unfolding steps1To4 step1FirstOctet step1ResumeHeld
   resumes d pos h out pre more =
       let o = z .bounds .out out in
-      let up : Working = record { state = takeUp (octets pos) r; area = work e .area } in
-      let eq : inside g (work e) 0xD1 ≡ up =
+      let up : Working = record { state = step1ResumeHeld (holds pos) r; area = work e .area } in
+      let eq : steps1To4 g (work e) 0xD1 ≡ up =
       if-not _ _ _ (ap not (eq-eqb (r .refusal) 0 (o .refusal·0)))
       ∙ (if-so _ _ _ (ap not out) ∙ ap (λ (s : Receiver). record { state = s; area = work e .area }) (resume-is pos (h .held·is) pre)) in
       subst (λ (w : Working). Follows d pos 0 0 (work (putBack e w))) (sym eq)
       (record {
         clean = refl;
         count = refl;
-        same = ap (take pos) (aside-back (r .second) (e .first) (e .second) (work e .area)) ∙ h .same;
+        same = ap (take pos) (aside-back (r .turn) (e .first) (e .second) (work e .area)) ∙ h .same;
         left·is = refl;
         zeros·is = refl;
         ahead = (refl, omega arith);

@@ -1,5 +1,4 @@
 -- Every call keeps a state in bounds, and a run from a fresh end is never refused 3.
--- Assumes nothing.
 use mathlib.Core.Path.{_≡_, refl, sym, subst, _∙_}
 use mathlib.Core.Bool.{Bool, true, false, _||_}
 use mathlib.Core.Logic.{⊎-elim}
@@ -13,25 +12,25 @@ use Rattle.cobs.specs.CodeBlocks.{flag}
 use Rattle.cobs.proofs.Tests.{branch, decide}
 use Rattle.link.specs.Agreed.{Agreed, agreed, leastPacket, largestFrame, mostDecoded}
 use Rattle.link.specs.Answers.{refused}
-use Rattle.link.specs.Sender.{Lane, low, high, OnLine, Queue, Sender, Sending, Step, Load, answer, area, queue, loaded, next, put, load, inBounds}
-use Rattle.link.specs.Receiver.{Receiver, Receiving, Receive, receive}
+use Rattle.link.specs.Sender.{Lane, low, high, OnLine, LaneState, Sender, SenderEnd, Step, Load, outAnswer, laneArea, laneState, loaded, next, putFrame, load, inBounds}
+use Rattle.link.specs.Receiver.{Receiver, ReceiverEnd, Receive, receive}
 use Rattle.link.specs.Receiver as receiver
-use Rattle.link.specs.Runs.{Call, loading, nextOctet, Station, opened, answers, afterLoad, afterNext, receives}
-use Rattle.link.specs.Demands.{KeepBounds, NeverOutOfBounds, fresh}
+use Rattle.link.specs.Runs.{SenderCall, loading, nextOctet, Station, freshStation, senderAnswers, afterLoad, afterNext, receives}
+use Rattle.link.specs.Demands.{KeepBounds, NeverOutOfBounds, freshReceiver}
 use Rattle.link.proofs.Tests.{if-so, or-left, or-right}
-use Rattle.link.proofs.Way.{Way, ends, cuts, warns, goes, Turn, cut·due, idles, takes·up, begins·high, begins·low, high·on, low·on, turn}
+use Rattle.link.proofs.Way.{Way, ends, cuts, warns, goes, Turn, cut·due, idles, resumes·low, begins·high, begins·low, high·on, low·on, turn}
 use Rattle.link.proofs.ReceiverBounds as heard
 use Rattle.link.proofs.SenderBounds as sent
-use Rattle.link.proofs.Sound.{Sound, sound-opened, sound-load, sound-next}
+use Rattle.link.proofs.Sound.{Sound, sound-fresh, sound-load, sound-next}
 
 -- ---- the receiver
 
 -- in bounds, whatever the areas
-record Inside (g : Agreed) (r : Receiver) : Type 0 where
+record InBounds (g : Agreed) (r : Receiver) : Type 0 where
   agrees : agreed (r .settings) ≡ g
   bounds : heard.Bounds g r
 
-module _ (g : Agreed) (e : Receiving) (x : ℕ) (b : Inside g (e .state)) where
+module _ (g : Agreed) (e : ReceiverEnd) (x : ℕ) (b : InBounds g (e .state)) where
   abbrev short : Bool
   short = ltb (length (e .first)) (mostDecoded g) || ltb (length (e .second)) (mostDecoded g)
 
@@ -48,8 +47,8 @@ module _ (g : Agreed) (e : Receiving) (x : ℕ) (b : Inside g (e .state)) where
         second = ltb-false (length (e .second)) (mostDecoded g) (or-right (ltb (length (e .first)) (mostDecoded g)) (ltb (length (e .second)) (mostDecoded g)) k);
       }
 
-  receive-inside : Inside g (receive e x .after .state)
-  receive-inside =
+  receive-in-bounds : InBounds g (receive e x .after .state)
+  receive-in-bounds =
       decide short (λ k. rw (receive-short k) b)
       (λ k. let z = heard.receive-ready g e x (ready k) in record { agrees = z .agrees; bounds = z .bounds })
 
@@ -63,37 +62,37 @@ module _ (g : Agreed) (e : Receiving) (x : ℕ) (b : Inside g (e .state)) where
       let h : heard.OfFrame (refused 3) = subst heard.OfFrame (sym (heard.other-passes g e x (eqb-false x flag f) (ready k) .silent) ∙ q) tt in
       omega arith))
 
-never-3 : (g : Agreed) (e : Receiving) (xs : List ℕ) → Inside g (e .state)
+never-3 : (g : Agreed) (e : ReceiverEnd) (xs : List ℕ) → InBounds g (e .state)
     → List·Memᴰ (refused 3) (map (λ (h : Receive). h .report) (receives e xs)) → ⊥
 unfolding receives
 never-3 g e [] b m = List·Memᴰ·not-nil m
 never-3 g e (x ∷ xs) b m =
-    ⊎-elim (λ q. receive-3 g e x b (sym q)) (never-3 g (receive e x .after) xs (receive-inside g e x b)) (List·Memᴰ·cases-cons m)
+    ⊎-elim (λ q. receive-3 g e x b (sym q)) (never-3 g (receive e x .after) xs (receive-in-bounds g e x b)) (List·Memᴰ·cases-cons m)
 
 -- ---- the sender
 
 -- no step refuses
-way-3 : (g : Agreed) (l : Lane) (s : Sender) (d : List ℕ) (st : Step) → Way g l s d st → answer (st .out) ≡ refused 3 → ⊥
+way-3 : (g : Agreed) (l : Lane) (s : Sender) (d : List ℕ) (st : Step) → Way g l s d st → outAnswer (st .out) ≡ refused 3 → ⊥
 way-3 g l s d st (ends over) q = let n : _≡_ {A = ℕ} 0 1 = cc in omega arith
 way-3 g l s d st (cuts short e pre urgent f) q = let n : _≡_ {A = ℕ} 0 1 = cc in omega arith
 way-3 g l s d st (warns short e pre urgent f) q = let n : _≡_ {A = ℕ} 0 1 = cc in omega arith
 way-3 g l s d st (goes x pos n z short v) q = let n : _≡_ {A = ℕ} 0 1 = cc in omega arith
 
-turn-3 : (g : Agreed) (ql qh : Queue) (n z t : ℕ) (al ah : List ℕ) (o : OnLine) (u c : Bool) (st : Step) → Turn g ql qh n z t al ah o u c st
-    → answer (st .out) ≡ refused 3 → ⊥
+turn-3 : (g : Agreed) (ql qh : LaneState) (n z t : ℕ) (al ah : List ℕ) (o : OnLine) (u c : Bool) (st : Step) → Turn g ql qh n z t al ah o u c st
+    → outAnswer (st .out) ≡ refused 3 → ⊥
 turn-3 g ql qh n z t al ah o u c st cut·due q = let i : _≡_ {A = ℕ} 0 1 = cc in omega arith
 turn-3 g ql qh n z t al ah o u c st idles q = let i : _≡_ {A = ℕ} 0 1 = cc in omega arith
-turn-3 g ql qh n z t al ah o u c st (takes·up h) q = let i : _≡_ {A = ℕ} 0 1 = cc in omega arith
+turn-3 g ql qh n z t al ah o u c st (resumes·low h) q = let i : _≡_ {A = ℕ} 0 1 = cc in omega arith
 turn-3 g ql qh n z t al ah o u c st (begins·high h w) q = way-3 g high _ _ st w q
 turn-3 g ql qh n z t al ah o u c st (begins·low h w) q = way-3 g low _ _ st w q
 turn-3 g ql qh n z t al ah o u c st (high·on w) q = way-3 g high _ _ st w q
 turn-3 g ql qh n z t al ah o u c st (low·on w) q = way-3 g low _ _ st w q
 
-next-3 : (g : Agreed) (e : Sending) → agreed (e .state .settings) ≡ g → inBounds g (e .state) ≡ true → answer (next e .out) ≡ refused 3 → ⊥
+next-3 : (g : Agreed) (e : SenderEnd) → agreed (e .state .settings) ≡ g → inBounds g (e .state) ≡ true → outAnswer (next e .out) ≡ refused 3 → ⊥
 unfolding next
 next-3 g e ag b =
     rw (ag, b)
-    (branch (λ (st : Step). answer (st .out) ≡ refused 3 → ⊥) (ltb (length (e .low)) (largestFrame g) || ltb (length (e .high)) (largestFrame g))
+    (branch (λ (st : Step). outAnswer (st .out) ≡ refused 3 → ⊥) (ltb (length (e .low)) (largestFrame g) || ltb (length (e .high)) (largestFrame g))
     (λ _ q. let n : _≡_ {A = ℕ} 2 3 = cc in omega arith)
     (λ _.
     let s = e .state in
@@ -102,23 +101,23 @@ next-3 g e ag b =
 
 load-3 : (g : Agreed) (l : Lane) (p : List ℕ) (s : Sender) (a : List ℕ) → agreed (s .settings) ≡ g → inBounds g s ≡ true
     → load l p s a .answer ≡ refused 3 → ⊥
-unfolding load put
+unfolding load putFrame
 load-3 g l p s a ag b =
     let P : Load → Type 0 = λ t. t .answer ≡ refused 3 → ⊥ in
     rw (ag, b)
     (branch P (ltb (length a) (largestFrame g)) (λ _ q. let n : _≡_ {A = ℕ} 2 3 = cc in omega arith)
-    (λ _. branch P (loaded (queue l s)) (λ _ q. let n : _≡_ {A = ℕ} 4 3 = cc in omega arith)
+    (λ _. branch P (loaded (laneState l s)) (λ _ q. let n : _≡_ {A = ℕ} 4 3 = cc in omega arith)
     (λ _. branch P (ltb (length p) leastPacket || ltb (g .limit) (length p)) (λ _ q. let n : _≡_ {A = ℕ} 1 3 = cc in omega arith)
     (λ _ q. let n : _≡_ {A = ℕ} 0 1 = cc in omega arith))))
 
-sender-3 : (g : Agreed) (w : Station) (cs : List Call) → Sound g w → List·Memᴰ (refused 3) (answers w cs) → ⊥
-unfolding answers
+sender-3 : (g : Agreed) (w : Station) (cs : List SenderCall) → Sound g w → List·Memᴰ (refused 3) (senderAnswers w cs) → ⊥
+unfolding senderAnswers
 sender-3 g w [] s m = List·Memᴰ·not-nil m
 sender-3 g w (loading l p ∷ cs) s m =
-    ⊎-elim (λ q. load-3 g l p (w .end .state) (area l (w .end)) (s .agrees) (sent.in-bounds g (w .end .state) (s .inside)) (sym q))
+    ⊎-elim (λ q. load-3 g l p (w .end .state) (laneArea l (w .end)) (s .agrees) (sent.in-bounds g (w .end .state) (s .in·bounds)) (sym q))
     (sender-3 g (afterLoad l p w) cs (sound-load g l p w s)) (List·Memᴰ·cases-cons m)
 sender-3 g w (nextOctet ∷ cs) s m =
-    ⊎-elim (λ q. next-3 g (w .end) (s .agrees) (sent.in-bounds g (w .end .state) (s .inside)) (sym q))
+    ⊎-elim (λ q. next-3 g (w .end) (s .agrees) (sent.in-bounds g (w .end .state) (s .in·bounds)) (sym q))
     (sender-3 g (afterNext true w) cs (sound-next g true w s)) (List·Memᴰ·cases-cons m)
 
 -- ---- the theorems
@@ -136,7 +135,7 @@ keep-bounds =
       receive =
           λ e x b.
           let g = agreed (e .state .settings) in
-          let i = receive-inside g e x (record { agrees = refl; bounds = heard.bounds g (e .state) b }) in
+          let i = receive-in-bounds g e x (record { agrees = refl; bounds = heard.bounds g (e .state) b }) in
           subst (λ (h : Agreed). receiver.inBounds h (receive e x .after .state) ≡ true) (sym (i .agrees))
           (heard.in-bounds g (receive e x .after .state) (i .bounds));
     }
@@ -144,6 +143,6 @@ keep-bounds =
 pub never-out-of-bounds : NeverOutOfBounds
 never-out-of-bounds =
     record {
-      sender = λ t al ah cs m. sender-3 (agreed t) (opened t al ah) cs (sound-opened t al ah) m;
-      receiver = λ t a b xs m. never-3 (agreed t) (fresh t a b) xs (record { agrees = refl; bounds = heard.outside-in (agreed t) t _ _ tt }) m;
+      sender = λ t al ah cs m. sender-3 (agreed t) (freshStation t al ah) cs (sound-fresh t al ah) m;
+      receiver = λ t a b xs m. never-3 (agreed t) (freshReceiver t a b) xs (record { agrees = refl; bounds = heard.out-of-frame-in (agreed t) t _ _ tt }) m;
     }

@@ -1,6 +1,5 @@
 -- The marked cases, computed of the steps themselves with the real check sequence; (h) by a law, since its areas are long. This file alone
 -- opens the lower crates' definitions.
--- Assumes nothing.
 use mathlib.Core.Path.{_≡_, refl, sym, ap, subst, _∙_}
 use mathlib.Core.Bool.{true, false, not}
 use mathlib.Core.Logic.{⊎-elim}
@@ -12,27 +11,27 @@ use lib.Dec.{ltb, eqb}
 use lib.ListN.{length, take, drop, replicate, length-replicate}
 use Rattle.fcs.specs.Notation.{_⊕_}
 use Rattle.fcs.specs.CheckSequence.{bitStep, bitSteps, entry, octetStep, feed, register, lowFirst, fcs, good}
-use Rattle.cobs.specs.CodeBlocks.{flag, within, codeTable, meaning, toLine, fromLine, leading, choice}
+use Rattle.cobs.specs.CodeBlocks.{flag, inRange, codeTable, meaning, toLine, fromLine, leading, choice}
 use Rattle.cobs.proofs.Tests.{branch, decide}
 use Rattle.cobs.proofs.Exchange.{from-line}
 use Rattle.cobs.proofs.Table.{run-row, row-read}
 use Rattle.link.specs.Agreed.{Agreed, agreed, leastFrame, mostDecoded}
 use Rattle.link.specs.Answers.{refused}
-use Rattle.link.specs.Sender.{Lane, low, high, put, load, breakOff, sendData, sendCode, onward, takeLine, steps, next}
+use Rattle.link.specs.Sender.{Lane, low, high, putFrame, load, step4BreakOff, step5Data, step6Code, steps3To6, step2NoLane, steps1To6, next}
 use Rattle.link.specs.Sender as sender
-use Rattle.link.specs.Receiver.{Working, Receiving, Receive, Ended, isNone, isD0, decode, dataOctet, byMeaning, code, takeUp, resume, firstOctet, inside, whole, close, atFlag, work, putBack, flagged, receive}
+use Rattle.link.specs.Receiver.{Working, ReceiverEnd, Receive, Ended, isNoBlock, isD0, step3Decode, step3Data, step2ByMeaning, step2Code, step1ResumeHeld, step1D1, step1FirstOctet, steps1To4, step5WithoutPhantom, step5Flag, atFlag, work, putBack, flagged, receive}
 use Rattle.link.specs.Receiver as receiver
-use Rattle.link.specs.Runs.{afterLoad, afterNext, run, written, receives, received}
-use Rattle.link.specs.Demands.{fresh}
-use Rattle.link.specs.Marked.{Case, tenth, Holds, first·area, cases, Marked, AtWork}
+use Rattle.link.specs.Runs.{afterLoad, afterNext, run, written, receives, notQuiet, received}
+use Rattle.link.specs.Demands.{freshReceiver}
+use Rattle.link.specs.Marked.{Case, refusedTen, Says, receiverArea, cases, MarkedCases, AtWork}
 use Rattle.link.proofs.Tests.{if-so, if-not, true-false}
 use Rattle.link.proofs.ReceiverBounds.{Ready, receive-flag, receive-other, receive-ready}
-use Rattle.link.proofs.Follow.{inside-code, code-is}
+use Rattle.link.proofs.Follow.{steps-code, code-is}
 use Rattle.link.proofs.Demands.{ready-fresh}
 
 abbrev AllHold : List Case → Type 0
 AllHold [] = Unit {0}
-AllHold (c ∷ cs) = Holds c × AllHold cs
+AllHold (c ∷ cs) = Says c × AllHold cs
 
 -- ---- (a) to (g) and (i): computed
 
@@ -41,7 +40,7 @@ lanes P h k low = h
 lanes P h k high = k
 
 a-to-g : AllHold (take 7 cases)
-unfolding written receives afterLoad afterNext agreed put load breakOff sendData sendCode onward takeLine steps next sender.inBounds decode dataOctet byMeaning code takeUp resume firstOctet inside whole close atFlag receive receiver.inBounds within codeTable meaning toLine fromLine leading choice _⊕_ bitStep bitSteps entry octetStep feed register lowFirst fcs good
+unfolding written receives notQuiet afterLoad afterNext agreed putFrame load step4BreakOff step5Data step6Code steps3To6 step2NoLane steps1To6 next sender.inBounds step3Decode step3Data step2ByMeaning step2Code step1ResumeHeld step1D1 step1FirstOctet steps1To4 step5WithoutPhantom step5Flag atFlag receive receiver.inBounds inRange codeTable meaning toLine fromLine leading choice _⊕_ bitStep bitSteps entry octetStep feed register lowFirst fcs good
 a-to-g = (lanes _ refl refl, (lanes _ refl refl, (lanes _ refl refl, (lanes _ refl refl, (refl, (refl, (refl, tt)))))))
 
 i : AllHold (drop 9 cases)
@@ -51,33 +50,33 @@ i = (refl, (refl, tt))
 -- ---- (h): runs of zeros
 
 -- n octets are decoded, and nothing is refused nor left
-record Decoded (g : Agreed) (n : ℕ) (e : Receiving) : Type 0 where
+record Decoded (g : Agreed) (n : ℕ) (e : ReceiverEnd) : Type 0 where
   ready : Ready g e
   clean : e .state .refusal ≡ 0
   left·0 : e .state .left ≡ 0
   count : e .state .decoded ≡ n
 
-module _ (g : Agreed) (zxe : g .zxe ≡ true) (n z : ℕ) (h : 3 ≤ z) (k : z ≤ 15) (e : Receiving) (d : Decoded g n e) where
+module _ (g : Agreed) (zxe : g .zxe ≡ true) (n z : ℕ) (h : 3 ≤ z) (k : z ≤ 15) (e : ReceiverEnd) (d : Decoded g n e) where
   abbrev begun : Working
-  begun = record { state = receiver.begin (receiver.blockOf (0xD0 + z)) 0 0 (e .state); area = work e .area }
+  begun = record { state = receiver.step2BeginBlock (receiver.lastBlock (0xD0 + z)) 0 0 (e .state); area = work e .area }
 
-  run-is : receive e (0xD0 + z) .after ≡ putBack e (decode g (replicate z 0) begun)
-  unfolding byMeaning
+  run-is : receive e (0xD0 + z) .after ≡ putBack e (step3Decode g (replicate z 0) begun)
+  unfolding step2ByMeaning
   run-is =
       ap (λ (r : Receive). r .after) (receive-other g e (d .ready) (0xD0 + z) (λ q. omega arith))
       ∙ ap (putBack e)
-      (ap (inside g (work e)) (from-line (0xD0 + z) (λ q. omega arith))
-      ∙ (inside-code g (work e) (0xD0 + z) (d .clean) (d .left·0) (λ q. omega arith) (λ q. omega arith)
+      (ap (steps1To4 g (work e)) (from-line (0xD0 + z) (λ q. omega arith))
+      ∙ (steps-code g (work e) (0xD0 + z) (d .clean) (d .left·0) (λ q. omega arith) (λ q. omega arith)
       ∙ code-is g (work e) (0xD0 + z) 0 z (row-read (run-row z zxe h k))))
 
   size : length {A = ℕ} (replicate z 0) ≡ z
   size = length-replicate z 0
 
   run-on : n + z ≤ mostDecoded g → Decoded g (n + z) (receive e (0xD0 + z) .after)
-  unfolding decode
+  unfolding step3Decode
   run-on room =
       let ready = receive-ready g e (0xD0 + z) (d .ready) in
-      let is : receive e (0xD0 + z) .after ≡ putBack e (receiver.wrote (replicate z 0) begun) =
+      let is : receive e (0xD0 + z) .after ≡ putBack e (receiver.step3Write (replicate z 0) begun) =
       run-is ∙ ap (putBack e) (if-not _ _ _ (le-ltb (mostDecoded g) (e .state .decoded + length {A = ℕ} (replicate z 0)) (omega (arith, size, d .count)))) in
       record {
         ready = ready;
@@ -87,12 +86,12 @@ module _ (g : Agreed) (zxe : g .zxe ≡ true) (n z : ℕ) (h : 3 ≤ z) (k : z �
       }
 
   run-over : mostDecoded g < n + z → receive e (0xD0 + z) .after .state .refusal ≡ 10
-  unfolding decode
+  unfolding step3Decode
   run-over over =
-      ap (λ (r : Receiving). r .state .refusal)
+      ap (λ (r : ReceiverEnd). r .state .refusal)
       (run-is ∙ ap (putBack e) (if-so _ _ _ (lt-ltb (mostDecoded g) (e .state .decoded + length {A = ℕ} (replicate z 0)) (omega (arith, size, d .count)))))
 
-runs : (g : Agreed) → g .zxe ≡ true → (m n : ℕ) (e : Receiving) → n + 15 * m ≤ mostDecoded g → Decoded g n e
+runs : (g : Agreed) → g .zxe ≡ true → (m n : ℕ) (e : ReceiverEnd) → n + 15 * m ≤ mostDecoded g → Decoded g n e
     → Decoded g (n + 15 * m) (received e (replicate m 0xDF))
 unfolding received
 runs g zxe zero n e room d = subst (λ (k : ℕ). Decoded g k e) (omega arith) d
@@ -100,15 +99,15 @@ runs g zxe (suc m) n e room d =
     subst (λ (k : ℕ). Decoded g k (received (receive e 0xDF .after) (replicate m 0xDF))) (omega arith)
     (runs g zxe m (n + 15) (receive e 0xDF .after) (omega arith) (run-on g zxe n 15 (omega arith) (omega arith) e d (omega arith)))
 
-received-append : (e : Receiving) (xs : List ℕ) (x : ℕ) → received e (xs ++ (x ∷ [])) ≡ receive (received e xs) x .after
+received-append : (e : ReceiverEnd) (xs : List ℕ) (x : ℕ) → received e (xs ++ (x ∷ [])) ≡ receive (received e xs) x .after
 unfolding received
 received-append e [] x = refl
 received-append e (y ∷ xs) x = received-append (receive e y .after) xs x
 
 -- at the flag the remembered refusal is reported; with none remembered it isn't 10
-module _ (g : Agreed) (e : Receiving) (z : Ready g e) where
+module _ (g : Agreed) (e : ReceiverEnd) (z : Ready g e) where
   told-refusal : (n : ℕ) → e .state .refusal ≡ suc n → receive e flag .report ≡ refused (suc n)
-  unfolding atFlag close
+  unfolding atFlag step5Flag
   told-refusal n q =
       let some : e .state .refusal ≡ 0 → ⊥ = (λ p. omega arith) in
       let framed : e .state .framed ≡ true = decide (e .state .framed) (λ f. f) (λ f. absurd (some (z .bounds .out f .refusal·0))) in
@@ -117,14 +116,14 @@ module _ (g : Agreed) (e : Receiving) (z : Ready g e) where
       ∙ ap refused q
 
   not-ten : e .state .refusal ≡ 0 → receive e flag .report ≡ refused 10 → ⊥
-  unfolding atFlag close whole
+  unfolding atFlag step5Flag step5WithoutPhantom
   not-ten clean =
       let r = e .state in
       let P : Ended → Type 0 = λ t. t .report ≡ refused 10 → ⊥ in
       rw (receive-flag g e z)
       (branch P (r .framed)
       (λ _. branch P (not (eqb (r .refusal) 0)) (λ q. true-false (sym q ∙ ap not (eq-eqb (r .refusal) 0 clean)))
-      (λ _. branch P (isNone (r .last)) (λ _ q. let n : _≡_ {A = ℕ} 9 10 = cc in omega arith)
+      (λ _. branch P (isNoBlock (r .last)) (λ _ q. let n : _≡_ {A = ℕ} 9 10 = cc in omega arith)
       (λ _. branch P (ltb 0 (r .left))
       (λ _. branch P (g .pre) (λ _ q. let n : _≡_ {A = ℕ} 0 1 = cc in omega arith) (λ _ q. let n : _≡_ {A = ℕ} 11 10 = cc in omega arith))
       (λ _. branch P (isD0 (r .last)) (λ _ q. let n : _≡_ {A = ℕ} 12 10 = cc in omega arith)
@@ -137,7 +136,7 @@ module _ (g : Agreed) (e : Receiving) (z : Ready g e) where
 abbrev g·3 : Agreed
 g·3 = agreed 0x03
 
-long-enough : mostDecoded g·3 ≤ length first·area
+long-enough : mostDecoded g·3 ≤ length receiverArea
 unfolding agreed
 long-enough = omega (arith, length-replicate {A = ℕ} 2051 0)
 
@@ -149,21 +148,21 @@ room·3 : mostDecoded g·3 ≡ 2051
 unfolding agreed
 room·3 = refl
 
-many : Decoded g·3 2040 (received (fresh 0x03 first·area first·area) (replicate 136 0xDF))
+many : Decoded g·3 2040 (received (freshReceiver 0x03 receiverArea receiverArea) (replicate 136 0xDF))
 many =
-    runs g·3 zxe·3 136 0 (fresh 0x03 first·area first·area) (omega (arith, room·3))
-    (record { ready = ready-fresh 0x03 first·area first·area long-enough long-enough; clean = refl; left·0 = refl; count = refl })
+    runs g·3 zxe·3 136 0 (freshReceiver 0x03 receiverArea receiverArea) (omega (arith, room·3))
+    (record { ready = ready-fresh 0x03 receiverArea receiverArea long-enough long-enough; clean = refl; left·0 = refl; count = refl })
 
-h·DB : Holds (tenth (replicate 136 0xDF ++ (0xDB ∷ [])) false)
+h·DB : Says (refusedTen (replicate 136 0xDF ++ (0xDB ∷ [])) false)
 h·DB =
-    let e = received (fresh 0x03 first·area first·area) (replicate 136 0xDF) in
+    let e = received (freshReceiver 0x03 receiverArea receiverArea) (replicate 136 0xDF) in
     let d = run-on g·3 zxe·3 2040 11 (omega arith) (omega arith) e many (omega (arith, room·3)) in
-    rw (received-append (fresh 0x03 first·area first·area) (replicate 136 0xDF) 0xDB) (not-ten g·3 (receive e 0xDB .after) (d .ready) (d .clean))
+    rw (received-append (freshReceiver 0x03 receiverArea receiverArea) (replicate 136 0xDF) 0xDB) (not-ten g·3 (receive e 0xDB .after) (d .ready) (d .clean))
 
-h·DC : Holds (tenth (replicate 136 0xDF ++ (0xDC ∷ [])) true)
+h·DC : Says (refusedTen (replicate 136 0xDF ++ (0xDC ∷ [])) true)
 h·DC =
-    let e = received (fresh 0x03 first·area first·area) (replicate 136 0xDF) in
-    rw (received-append (fresh 0x03 first·area first·area) (replicate 136 0xDF) 0xDC)
+    let e = received (freshReceiver 0x03 receiverArea receiverArea) (replicate 136 0xDF) in
+    rw (received-append (freshReceiver 0x03 receiverArea receiverArea) (replicate 136 0xDF) 0xDC)
     (told-refusal g·3 (receive e 0xDC .after) (receive-ready g·3 e 0xDC (many .ready)) 9
     (run-over g·3 zxe·3 2040 12 (omega arith) (omega arith) e many (omega (arith, room·3))))
 
@@ -176,15 +175,15 @@ join (c ∷ cs) ds h k = (h .0, join cs ds (h .1) k)
 all : AllHold cases
 all = join (take 7 cases) (drop 7 cases) a-to-g (h·DB, (h·DC, i))
 
-each : (cs : List Case) → AllHold cs → (c : Case) → List·Memᴰ c cs → Holds c
+each : (cs : List Case) → AllHold cs → (c : Case) → List·Memᴰ c cs → Says c
 each [] t c m = absurd (List·Memᴰ·not-nil m)
-each (d ∷ cs) t c m = ⊎-elim (λ q. subst Holds (sym q) (t .0)) (each cs (t .1) c) (List·Memᴰ·cases-cons m)
+each (d ∷ cs) t c m = ⊎-elim (λ q. subst Says (sym q) (t .0)) (each cs (t .1) c) (List·Memᴰ·cases-cons m)
 
-pub marked : Marked
+pub marked : MarkedCases
 marked = each cases all
 
 -- ---- demand 3 at work
 
 pub at-work : AtWork
-unfolding run received written receives afterLoad afterNext agreed put load breakOff sendData sendCode onward takeLine steps next sender.inBounds decode dataOctet byMeaning code takeUp resume firstOctet inside whole close atFlag receive receiver.inBounds within codeTable meaning toLine fromLine leading choice _⊕_ bitStep bitSteps entry octetStep feed register lowFirst fcs good
+unfolding run received written receives notQuiet afterLoad afterNext agreed putFrame load step4BreakOff step5Data step6Code steps3To6 step2NoLane steps1To6 next sender.inBounds step3Decode step3Data step2ByMeaning step2Code step1ResumeHeld step1D1 step1FirstOctet steps1To4 step5WithoutPhantom step5Flag atFlag receive receiver.inBounds inRange codeTable meaning toLine fromLine leading choice _⊕_ bitStep bitSteps entry octetStep feed register lowFirst fcs good
 at-work = (refl, refl)

@@ -1,34 +1,33 @@
 -- The receiver by itself: on areas that are long enough no octet is refused, each leaves the state in bounds, all but flags are Quiet, and
 -- after a flag the receiver is out of a frame.
--- Assumes nothing.
 use mathlib.Core.Path.{_≡_, refl, sym, ap, _∙_}
 use mathlib.Core.Bool.{Bool, true, false, cond, not, _&&_, _||_}
 use mathlib.Core.List.{List, [], _∷_}
 use Prim.Native.Nat.{ℕ, _+_, _-_, _≤_, _<_}
 use native.Mathlib.Omega.{arith}
-use borrow.Author.Tests.{ltb-true, ltb-false, leb-true, eqb-true, eqb-false, lt-ltb, le-ltb, le-leb, ne-eqb, not-true, not-false}
+use borrow.Author.Tests.{ltb-true, ltb-false, leb-true, eqb-true, eqb-false, lt-ltb, le-ltb, le-leb, eq-eqb, ne-eqb, not-true, not-false}
 use lib.Dec.{leb, ltb, eqb}
 use lib.ListN.{length, take, replicate, length-replicate}
 use Rattle.fcs.specs.CheckSequence.{good}
 use Rattle.cobs.specs.CodeBlocks.{flag, fromLine, meaning}
 use Rattle.cobs.specs.declared.Meaning.{Meaning}
-use Rattle.cobs.specs.declared.Meaning.the-variants.{Counts, NotAgreed, NoCode}
+use Rattle.cobs.specs.declared.Meaning.the-variants.{InTable, NotAgreed, NoCode}
 use Rattle.cobs.proofs.Tests.{branch, decide, and-left, and-right}
 use Rattle.cobs.proofs.Table.{read-row, numbers}
 use Rattle.link.specs.Agreed.{Agreed, agreed, leastFrame, mostDecoded}
 use Rattle.link.specs.Answers.{Answer, done, octet, idle, quiet, packet, held, refused}
-use Rattle.link.specs.Receiver.{Fragment, none, octets, LastBlock, noBlock, full, other, Receiver, Working, Receiving, Receive, Ended, outside, due, begin, isNone, isD0, heldOk, freshOk, blockOk, inBounds, remember, refuse, wrote, decode, dataOctet, blockOf, byMeaning, code, takeUp, resume, firstOctet, inside, kept, ends, hold, whole, close, atFlag, areaOf, work, putBack, flagged, receive}
+use Rattle.link.specs.Receiver.{Fragment, nothingHeld, holds, LastBlock, noBlock, blockD0, otherBlock, Receiver, Working, ReceiverEnd, Receive, Ended, outOfFrame, withDue, step2BeginBlock, isNoBlock, isD0, heldOk, freshOk, lastBlockOk, inBounds, step4Remember, step4Refuse, step3Write, step3Decode, step3Data, lastBlock, step2ByMeaning, step2Code, step1ResumeHeld, step1D1, step1FirstOctet, steps1To4, heldAfter, step5End, step5Hold, step5WithoutPhantom, step5Flag, atFlag, areaOf, work, putBack, flagged, receive}
 use Rattle.link.proofs.Tests.{if-so, if-not, ands, true-false, false-true, or-cases}
 use Rattle.link.proofs.Write.{length-write}
 
 -- ---- in bounds, as facts
 
 abbrev pub HeldOk : Agreed → Fragment → Type 0
-HeldOk g none = Unit {0}
-HeldOk g (octets n) = n ≤ mostDecoded g
+HeldOk g nothingHeld = Unit {0}
+HeldOk g (holds n) = n ≤ mostDecoded g
 
 -- out of a frame
-pub record Outside (r : Receiver) : Type 0 where
+pub record FreshOk (r : Receiver) : Type 0 where
   pub decoded·0 : r .decoded ≡ 0
   pub left·0 : r .left ≡ 0
   pub zeros·0 : r .zeros ≡ 0
@@ -37,10 +36,10 @@ pub record Outside (r : Receiver) : Type 0 where
   pub refusal·0 : r .refusal ≡ 0
 
 -- in a frame without refusal, by the last block
-abbrev pub Begun : LastBlock → Bool → ℕ → ℕ → Type 0
-Begun noBlock resumed left decoded = resumed ≡ true
-Begun full resumed left decoded = Unit {0}
-Begun other resumed left decoded = 0 < left + decoded
+abbrev pub LastBlockOk : LastBlock → Bool → ℕ → ℕ → Type 0
+LastBlockOk noBlock resumed left decoded = resumed ≡ true
+LastBlockOk blockD0 resumed left decoded = Unit {0}
+LastBlockOk otherBlock resumed left decoded = 0 < left + decoded
 
 pub record Bounds (g : Agreed) (r : Receiver) : Type 0 where
   pub deep : r .decoded ≤ mostDecoded g
@@ -48,25 +47,25 @@ pub record Bounds (g : Agreed) (r : Receiver) : Type 0 where
   pub few : r .left ≤ 207
   pub two : r .zeros ≤ 2
   pub refusals : (r .refusal ≡ 0 → ⊥) → (5 ≤ r .refusal) × (r .refusal ≤ 10)
-  pub out : r .framed ≡ false → Outside r
-  pub begun : r .framed ≡ true → r .refusal ≡ 0 → Begun (r .last) (r .resumed) (r .left) (r .decoded)
+  pub out : r .framed ≡ false → FreshOk r
+  pub begun : r .framed ≡ true → r .refusal ≡ 0 → LastBlockOk (r .last) (r .resumed) (r .left) (r .decoded)
 
 -- the facts make the test true
 held-ok : (g : Agreed) (h : Fragment) → HeldOk g h → heldOk g h ≡ true
-held-ok g none k = refl
-held-ok g (octets n) k = le-leb n (mostDecoded g) k
+held-ok g nothingHeld k = refl
+held-ok g (holds n) k = le-leb n (mostDecoded g) k
 
 refusal-ok : (n : ℕ) → ((n ≡ 0 → ⊥) → (5 ≤ n) × (n ≤ 10)) → (eqb n 0 || leb 5 n && leb n 10) ≡ true
 refusal-ok n h =
     decide (eqb n 0) (λ e. rw e)
     (λ e. let k = h (eqb-false n 0 e) in rw (e, le-leb 5 n (k .0), le-leb n 10 (k .1)))
 
-block-ok : (b : LastBlock) (r : Receiver) → Begun b (r .resumed) (r .left) (r .decoded) → blockOk b r ≡ true
+block-ok : (b : LastBlock) (r : Receiver) → LastBlockOk b (r .resumed) (r .left) (r .decoded) → lastBlockOk b r ≡ true
 block-ok noBlock r h = h
-block-ok full r h = refl
-block-ok other r h = decide (ltb 0 (r .left)) (λ e. rw e) (λ e. rw e (lt-ltb 0 (r .decoded) (omega (arith, ltb-false 0 (r .left) e))))
+block-ok blockD0 r h = refl
+block-ok otherBlock r h = decide (ltb 0 (r .left)) (λ e. rw e) (λ e. rw e (lt-ltb 0 (r .decoded) (omega (arith, ltb-false 0 (r .left) e))))
 
-fresh-ok : (r : Receiver) → Outside r → freshOk r ≡ true
+fresh-ok : (r : Receiver) → FreshOk r → freshOk r ≡ true
 fresh-ok r h = rw (h .decoded·0, h .left·0, h .zeros·0, h .last·0, h .resumed·0, h .refusal·0)
 
 pub in-bounds : (g : Agreed) (r : Receiver) → Bounds g r → inBounds g r ≡ true
@@ -87,25 +86,25 @@ in-bounds g r h =
 
 -- and the test tells the facts
 ok-held : (g : Agreed) (h : Fragment) → heldOk g h ≡ true → HeldOk g h
-ok-held g none e = tt
-ok-held g (octets n) e = leb-true n (mostDecoded g) e
+ok-held g nothingHeld e = tt
+ok-held g (holds n) e = leb-true n (mostDecoded g) e
 
-ok-block : (b : LastBlock) (r : Receiver) → blockOk b r ≡ true → Begun b (r .resumed) (r .left) (r .decoded)
+ok-block : (b : LastBlock) (r : Receiver) → lastBlockOk b r ≡ true → LastBlockOk b (r .resumed) (r .left) (r .decoded)
 ok-block noBlock r e = e
-ok-block full r e = tt
-ok-block other r e =
+ok-block blockD0 r e = tt
+ok-block otherBlock r e =
     or-cases (ltb 0 (r .left)) (ltb 0 (r .decoded)) e
     (λ k. omega (arith, ltb-true 0 (r .left) k))
     (λ k. omega (arith, ltb-true 0 (r .decoded) k))
 
-is-none : (b : LastBlock) → isNone b ≡ true → b ≡ noBlock
+is-none : (b : LastBlock) → isNoBlock b ≡ true → b ≡ noBlock
 is-none noBlock e = refl
-is-none full e = false-true e
-is-none other e = false-true e
+is-none blockD0 e = false-true e
+is-none otherBlock e = false-true e
 
-ok-fresh : (r : Receiver) → freshOk r ≡ true → Outside r
+ok-fresh : (r : Receiver) → freshOk r ≡ true → FreshOk r
 ok-fresh r e =
-    let all = ands (eqb (r .decoded) 0) (eqb (r .left) 0) (eqb (r .zeros) 0) (isNone (r .last)) (not (r .resumed)) (eqb (r .refusal) 0) e in
+    let all = ands (eqb (r .decoded) 0) (eqb (r .left) 0) (eqb (r .zeros) 0) (isNoBlock (r .last)) (not (r .resumed)) (eqb (r .refusal) 0) e in
     record {
       decoded·0 = eqb-true (r .decoded) 0 (all .0);
       left·0 = eqb-true (r .left) 0 (all .1);
@@ -120,7 +119,7 @@ unfolding inBounds
 bounds g r e =
     let n = r .refusal in
     let known = eqb n 0 || leb 5 n && leb n 10 in
-    let frame = cond (r .framed) (not (eqb n 0) || blockOk (r .last) r) (freshOk r) in
+    let frame = cond (r .framed) (not (eqb n 0) || lastBlockOk (r .last) r) (freshOk r) in
     let all = ands (leb (r .decoded) (mostDecoded g)) (heldOk g (r .held)) (leb (r .left) 207) (leb (r .zeros) 2) known frame e in
     let in·frame : frame ≡ true = all .5 in
     record {
@@ -136,15 +135,24 @@ bounds g r e =
       out = λ f. ok-fresh r (sym (if-not (r .framed) _ (freshOk r) f) ∙ in·frame);
       begun =
           λ f z.
-          or-cases (not (eqb n 0)) (blockOk (r .last) r) (sym (if-so (r .framed) _ _ f) ∙ in·frame)
+          or-cases (not (eqb n 0)) (lastBlockOk (r .last) r) (sym (if-so (r .framed) _ _ f) ∙ in·frame)
           (λ k. absurd (eqb-false n 0 (not-true (eqb n 0) k) z))
           (ok-block (r .last) r);
     }
 
+-- data left: the octet is a data octet
+in-frame : (g : Agreed) (r : Receiver) → Bounds g r → 0 < r .left → r .framed ≡ true
+in-frame g r b l = decide (r .framed) (λ f. f) (λ f. absurd (omega (arith, b .out f .left·0)))
+
+pub steps-data : (g : Agreed) (w : Working) (x : ℕ) → Bounds g (w .state) → w .state .refusal ≡ 0 → 0 < w .state .left
+    → steps1To4 g w x ≡ step3Data g w x
+unfolding steps1To4
+steps-data g w x b n l = simp (eq-eqb _ _ n, in-frame g (w .state) b l, lt-ltb _ _ l)
+
 -- ---- a call that isn't refused
 
 -- a receiver of the agreed settings, in bounds, with areas that are long enough
-pub record Ready (g : Agreed) (e : Receiving) : Type 0 where
+pub record Ready (g : Agreed) (e : ReceiverEnd) : Type 0 where
   pub agrees : agreed (e .state .settings) ≡ g
   pub bounds : Bounds g (e .state)
   pub first : mostDecoded g ≤ length (e .first)
@@ -156,7 +164,7 @@ pub record Fit (g : Agreed) (w : Working) : Type 0 where
   pub bounds : Bounds g (w .state)
   pub long : mostDecoded g ≤ length (w .area)
 
-module _ (g : Agreed) (e : Receiving) (z : Ready g e) where
+module _ (g : Agreed) (e : ReceiverEnd) (z : Ready g e) where
   pub receive-flag : receive e flag ≡ flagged e (atFlag g (e .state) (work e .area))
   unfolding receive
   receive-flag =
@@ -167,7 +175,7 @@ module _ (g : Agreed) (e : Receiving) (z : Ready g e) where
         in-bounds g (e .state) (z .bounds),
       )
 
-  pub receive-other : (x : ℕ) → (x ≡ flag → ⊥) → receive e x ≡ record { report = quiet; after = putBack e (inside g (work e) (fromLine x)) }
+  pub receive-other : (x : ℕ) → (x ≡ flag → ⊥) → receive e x ≡ record { report = quiet; after = putBack e (steps1To4 g (work e) (fromLine x)) }
   unfolding receive
   receive-other x other·x =
       rw (
@@ -182,20 +190,20 @@ module _ (g : Agreed) (e : Receiving) (z : Ready g e) where
   area-long b = branch (λ a. mostDecoded g ≤ length a) b (λ _. z .second) (λ _. z .first)
 
   pub fit-work : Fit g (work e)
-  fit-work = record { agrees = z .agrees; bounds = z .bounds; long = area-long (e .state .second) }
+  fit-work = record { agrees = z .agrees; bounds = z .bounds; long = area-long (e .state .turn) }
 
   pub put-back-ready : (w : Working) → Fit g w → Ready g (putBack e w)
   put-back-ready w f =
       record {
         agrees = f .agrees;
         bounds = f .bounds;
-        first = branch (λ a. mostDecoded g ≤ length a) (e .state .second) (λ _. z .first) (λ _. f .long);
-        second = branch (λ a. mostDecoded g ≤ length a) (e .state .second) (λ _. f .long) (λ _. z .second);
+        first = branch (λ a. mostDecoded g ≤ length a) (e .state .turn) (λ _. z .first) (λ _. f .long);
+        second = branch (λ a. mostDecoded g ≤ length a) (e .state .turn) (λ _. f .long) (λ _. z .second);
       }
 
 -- ---- each part of the steps leaves the state in bounds and the work area as long as it was
 
-remember-in : (g : Agreed) (n : ℕ) (resumed : Bool) (r : Receiver) → 5 ≤ n → n ≤ 10 → Bounds g r → Bounds g (remember n resumed r)
+remember-in : (g : Agreed) (n : ℕ) (resumed : Bool) (r : Receiver) → 5 ≤ n → n ≤ 10 → Bounds g r → Bounds g (step4Remember n resumed r)
 remember-in g n resumed r h k b =
     record {
       deep = b .deep;
@@ -207,7 +215,7 @@ remember-in g n resumed r h k b =
       begun = λ _ e. absurd (omega arith);
     }
 
-refuse-in : (g : Agreed) (n : ℕ) (w : Working) → 5 ≤ n → n ≤ 10 → Fit g w → Fit g (refuse n w)
+refuse-in : (g : Agreed) (n : ℕ) (w : Working) → 5 ≤ n → n ≤ 10 → Fit g w → Fit g (step4Refuse n w)
 refuse-in g n w h k f =
     record { agrees = f .agrees; bounds = remember-in g n (w .state .resumed) (w .state) h k (f .bounds); long = f .long }
 
@@ -221,10 +229,10 @@ pub record InFrame (g : Agreed) (m : ℕ) (w : Working) : Type 0 where
   pub two : w .state .zeros ≤ 2
   pub framed : w .state .framed ≡ true
   pub clean : w .state .refusal ≡ 0
-  pub begun : Begun (w .state .last) (w .state .resumed) (w .state .left) (w .state .decoded + m)
+  pub begun : LastBlockOk (w .state .last) (w .state .resumed) (w .state .left) (w .state .decoded + m)
 
-wrote-in : (g : Agreed) (xs : List ℕ) (w : Working) → InFrame g (length xs) w → w .state .decoded + length xs ≤ mostDecoded g → Fit g (wrote xs w)
-wrote-in g xs w f room =
+write-in : (g : Agreed) (xs : List ℕ) (w : Working) → InFrame g (length xs) w → w .state .decoded + length xs ≤ mostDecoded g → Fit g (step3Write xs w)
+write-in g xs w f room =
     record {
       agrees = f .agrees;
       bounds =
@@ -240,8 +248,8 @@ wrote-in g xs w f room =
       long = omega (arith, f .long, length-write (w .area) (w .state .decoded) xs (omega (arith, f .long)));
     }
 
-decode-in : (g : Agreed) (xs : List ℕ) (w : Working) → InFrame g (length xs) w → Fit g (decode g xs w)
-unfolding decode
+decode-in : (g : Agreed) (xs : List ℕ) (w : Working) → InFrame g (length xs) w → Fit g (step3Decode g xs w)
+unfolding step3Decode
 decode-in g xs w f =
     branch (Fit g) (ltb (mostDecoded g) (w .state .decoded + length xs))
     (λ e.
@@ -259,26 +267,26 @@ decode-in g xs w f =
           };
       long = f .long;
     })
-    (λ e. wrote-in g xs w f (ltb-false (mostDecoded g) (w .state .decoded + length xs) e))
+    (λ e. write-in g xs w f (ltb-false (mostDecoded g) (w .state .decoded + length xs) e))
 
-begun-on : (b : LastBlock) (resumed : Bool) (n m k l : ℕ) → 0 < k + l → Begun b resumed n m → Begun b resumed k l
-begun-on noBlock resumed n m k l h g = g
-begun-on full resumed n m k l h g = tt
-begun-on other resumed n m k l h g = h
+last-on : (b : LastBlock) (resumed : Bool) (n m k l : ℕ) → 0 < k + l → LastBlockOk b resumed n m → LastBlockOk b resumed k l
+last-on noBlock resumed n m k l h g = g
+last-on blockD0 resumed n m k l h g = tt
+last-on otherBlock resumed n m k l h g = h
 
 -- a data octet of a frame without refusal
-data-in : (g : Agreed) (w : Working) (x : ℕ) → Fit g w → w .state .framed ≡ true → w .state .refusal ≡ 0 → Fit g (dataOctet g w x)
-unfolding dataOctet
+data-in : (g : Agreed) (w : Working) (x : ℕ) → Fit g w → w .state .framed ≡ true → w .state .refusal ≡ 0 → Fit g (step3Data g w x)
+unfolding step3Data
 data-in g w x f framed clean =
     let r = w .state in
     let b = f .bounds in
-    let begun : Begun (r .last) (r .resumed) (r .left) (r .decoded) = b .begun framed clean in
+    let begun : LastBlockOk (r .last) (r .resumed) (r .left) (r .decoded) = b .begun framed clean in
     branch (Fit g) (ltb (mostDecoded g) (r .decoded + 1)) (λ _. refuse-in g 10 w (omega arith) (omega arith) f)
     (λ e.
     let room : r .decoded + 1 ≤ mostDecoded g = ltb-false (mostDecoded g) (r .decoded + 1) e in
     branch (Fit g) (eqb (r .left) 1)
     (λ _.
-    let w₁ = wrote (x ∷ []) (record { state = due 0 0 r; area = w .area }) in
+    let w₁ = step3Write (x ∷ []) (record { state = withDue 0 0 r; area = w .area }) in
     decode-in g (replicate (r .zeros) 0) w₁
     (record {
       agrees = f .agrees;
@@ -289,10 +297,10 @@ data-in g w x f framed clean =
       two = omega arith;
       framed = framed;
       clean = clean;
-      begun = begun-on (r .last) (r .resumed) (r .left) (r .decoded) 0 _ (omega arith) begun;
+      begun = last-on (r .last) (r .resumed) (r .left) (r .decoded) 0 _ (omega arith) begun;
     }))
     (λ _.
-    wrote-in g (x ∷ []) (record { state = due (r .left - 1) (r .zeros) r; area = w .area })
+    write-in g (x ∷ []) (record { state = withDue (r .left - 1) (r .zeros) r; area = w .area })
     (record {
       agrees = f .agrees;
       long = f .long;
@@ -302,26 +310,26 @@ data-in g w x f framed clean =
       two = b .two;
       framed = framed;
       clean = clean;
-      begun = begun-on (r .last) (r .resumed) (r .left) (r .decoded) _ _ (omega arith) begun;
+      begun = last-on (r .last) (r .resumed) (r .left) (r .decoded) _ _ (omega arith) begun;
     })
     room))
 
 -- a code: a block that begins has data, or zeros that are decoded at once
-begun-block : (c : ℕ) (resumed : Bool) (n m : ℕ) → 0 < n + m → Begun (blockOf c) resumed n m
-begun-block c resumed n m h = branch (λ b. Begun b resumed n m) (eqb c 0xD0) (λ _. tt) (λ _. h)
+last-begins : (c : ℕ) (resumed : Bool) (n m : ℕ) → 0 < n + m → LastBlockOk (lastBlock c) resumed n m
+last-begins c resumed n m h = branch (λ b. LastBlockOk b resumed n m) (eqb c 0xD0) (λ _. tt) (λ _. h)
 
-meaning-in : (g : Agreed) (w : Working) (c : ℕ) (m : Meaning) → meaning (g .zxe) c ≡ m → Fit g w → w .state .refusal ≡ 0 → Fit g (byMeaning g w c m)
-unfolding byMeaning
+meaning-in : (g : Agreed) (w : Working) (c : ℕ) (m : Meaning) → meaning (g .zxe) c ≡ m → Fit g w → w .state .refusal ≡ 0 → Fit g (step2ByMeaning g w c m)
+unfolding step2ByMeaning
 meaning-in g w c NotAgreed e f clean = refuse-in g 6 w (omega arith) (omega arith) f
 meaning-in g w c NoCode e f clean = refuse-in g 7 w (omega arith) (omega arith) f
-meaning-in g w c (Counts n z) e f clean =
+meaning-in g w c (InTable n z) e f clean =
     let r = w .state in
     let b = f .bounds in
     let row = numbers (read-row (g .zxe) c n z e) in
     branch (Fit g) (eqb n 0)
     (λ k.
     let size : length {A = ℕ} (replicate z 0) ≡ z = length-replicate z 0 in
-    decode-in g (replicate z 0) (record { state = begin (blockOf c) 0 0 r; area = w .area })
+    decode-in g (replicate z 0) (record { state = step2BeginBlock (lastBlock c) 0 0 r; area = w .area })
     (record {
       agrees = f .agrees;
       long = f .long;
@@ -331,7 +339,7 @@ meaning-in g w c (Counts n z) e f clean =
       two = omega arith;
       framed = refl;
       clean = clean;
-      begun = begun-block c (r .resumed) 0 _ (omega (arith, row .covers, eqb-true n 0 k));
+      begun = last-begins c (r .resumed) 0 _ (omega (arith, row .covers, eqb-true n 0 k));
     }))
     (λ k.
     let some : n ≡ 0 → ⊥ = eqb-false n 0 k in
@@ -341,24 +349,24 @@ meaning-in g w c (Counts n z) e f clean =
           record {
             deep = b .deep;
             holds = b .holds;
-            few = row .octets-most;
+            few = row .nonzeros-most;
             two = row .zeros-few (omega arith);
             refusals = λ q. absurd (q clean);
             out = λ q. true-false q;
-            begun = λ _ _. begun-block c (r .resumed) n _ (omega arith);
+            begun = λ _ _. last-begins c (r .resumed) n _ (omega arith);
           };
       long = f .long;
     })
 
-code-in : (g : Agreed) (w : Working) (c : ℕ) → Fit g w → w .state .refusal ≡ 0 → Fit g (code g w c)
-unfolding code
+code-in : (g : Agreed) (w : Working) (c : ℕ) → Fit g w → w .state .refusal ≡ 0 → Fit g (step2Code g w c)
+unfolding step2Code
 code-in g w c f clean = meaning-in g w c (meaning (g .zxe) c) refl f clean
 
 -- D1
-take-up-in : (g : Agreed) (h : Fragment) (r : Receiver) → HeldOk g h → Bounds g r → Bounds g (takeUp h r)
-unfolding takeUp
-take-up-in g none r k b = remember-in g 8 true r (omega arith) (omega arith) b
-take-up-in g (octets n) r k b =
+resume-held-in : (g : Agreed) (h : Fragment) (r : Receiver) → HeldOk g h → Bounds g r → Bounds g (step1ResumeHeld h r)
+unfolding step1ResumeHeld
+resume-held-in g nothingHeld r k b = remember-in g 8 true r (omega arith) (omega arith) b
+resume-held-in g (holds n) r k b =
     record {
       deep = k;
       holds = tt;
@@ -369,33 +377,33 @@ take-up-in g (octets n) r k b =
       begun = λ _ _. refl;
     }
 
-settings-up : (h : Fragment) (r : Receiver) → takeUp h r .settings ≡ r .settings
-unfolding takeUp
-settings-up none r = refl
-settings-up (octets n) r = refl
+settings-up : (h : Fragment) (r : Receiver) → step1ResumeHeld h r .settings ≡ r .settings
+unfolding step1ResumeHeld
+settings-up nothingHeld r = refl
+settings-up (holds n) r = refl
 
-resume-in : (g : Agreed) (w : Working) → Fit g w → Fit g (record { state = resume g (w .state); area = w .area })
-unfolding resume
+resume-in : (g : Agreed) (w : Working) → Fit g w → Fit g (record { state = step1D1 g (w .state); area = w .area })
+unfolding step1D1
 resume-in g w f =
     branch (λ r. Fit g (record { state = r; area = w .area })) (g .pre)
     (λ _.
     record {
       agrees = ap agreed (settings-up (w .state .held) (w .state)) ∙ f .agrees;
-      bounds = take-up-in g (w .state .held) (w .state) (f .bounds .holds) (f .bounds);
+      bounds = resume-held-in g (w .state .held) (w .state) (f .bounds .holds) (f .bounds);
       long = f .long;
     })
     (λ _.
     record { agrees = f .agrees; bounds = remember-in g 6 true (w .state) (omega arith) (omega arith) (f .bounds); long = f .long })
 
-first-in : (g : Agreed) (w : Working) (x : ℕ) → Fit g w → w .state .refusal ≡ 0 → Fit g (firstOctet g w x)
-unfolding firstOctet
+first-in : (g : Agreed) (w : Working) (x : ℕ) → Fit g w → w .state .refusal ≡ 0 → Fit g (step1FirstOctet g w x)
+unfolding step1FirstOctet
 first-in g w x f clean =
     branch (Fit g) (eqb x 0xFF) (λ _. refuse-in g 5 w (omega arith) (omega arith) f)
     (λ _. branch (Fit g) (eqb x 0xD1) (λ _. resume-in g w f) (λ _. code-in g w x f clean))
 
-pub inside-in : (g : Agreed) (w : Working) (x : ℕ) → Fit g w → Fit g (inside g w x)
-unfolding inside
-inside-in g w x f =
+pub steps-in : (g : Agreed) (w : Working) (x : ℕ) → Fit g w → Fit g (steps1To4 g w x)
+unfolding steps1To4
+steps-in g w x f =
     branch (Fit g) (not (eqb (w .state .refusal) 0)) (λ _. f)
     (λ e.
     let clean : w .state .refusal ≡ 0 = eqb-true (w .state .refusal) 0 (not-false (eqb (w .state .refusal) 0) e) in
@@ -422,8 +430,8 @@ pub record EndsWell (g : Agreed) (t : Ended) : Type 0 where
   pub out : t .state .framed ≡ false
   pub tells : OfFrame (t .report)
 
-pub outside-in : (g : Agreed) (t : ℕ) (second : Bool) (h : Fragment) → HeldOk g h → Bounds g (outside t second h)
-outside-in g t second h k =
+pub out-of-frame-in : (g : Agreed) (t : ℕ) (second : Bool) (h : Fragment) → HeldOk g h → Bounds g (outOfFrame t second h)
+out-of-frame-in g t second h k =
     record {
       deep = omega arith;
       holds = k;
@@ -434,37 +442,37 @@ outside-in g t second h k =
       begun = λ q. false-true q;
     }
 
-kept-ok : (g : Agreed) (r : Receiver) → HeldOk g (r .held) → HeldOk g (kept r)
-kept-ok g r h = branch (HeldOk g) (r .resumed) (λ _. tt) (λ _. h)
+held-after-ok : (g : Agreed) (r : Receiver) → HeldOk g (r .held) → HeldOk g (heldAfter r)
+held-after-ok g r h = branch (HeldOk g) (r .resumed) (λ _. tt) (λ _. h)
 
 module _ (g : Agreed) (r : Receiver) (ag : agreed (r .settings) ≡ g) (b : Bounds g r) where
-  ends-in : (a : Answer) → OfFrame a → EndsWell g (ends a r)
-  ends-in a t = record { agrees = ag; bounds = outside-in g _ _ _ (kept-ok g r (b .holds)); out = refl; tells = t }
+  end-frame-in : (a : Answer) → OfFrame a → EndsWell g (step5End a r)
+  end-frame-in a t = record { agrees = ag; bounds = out-of-frame-in g _ _ _ (held-after-ok g r (b .holds)); out = refl; tells = t }
 
-  hold-in : EndsWell g (hold r)
-  hold-in = record { agrees = ag; bounds = outside-in g _ _ _ (b .deep); out = refl; tells = tt }
+  hold-in : EndsWell g (step5Hold r)
+  hold-in = record { agrees = ag; bounds = out-of-frame-in g _ _ _ (b .deep); out = refl; tells = tt }
 
-  whole-in : (area : List ℕ) (n : ℕ) → EndsWell g (whole g r area n)
-  unfolding whole
-  whole-in area n =
-      branch (EndsWell g) (ltb n (leastFrame g)) (λ _. ends-in (refused 13) (omega arith))
-      (λ _. branch (EndsWell g) (good (g .check) (take n area)) (λ _. ends-in (packet (r .second) (n - g .check .octets)) tt)
-      (λ _. ends-in (refused 14) (omega arith)))
+  without-phantom-in : (area : List ℕ) (n : ℕ) → EndsWell g (step5WithoutPhantom g r area n)
+  unfolding step5WithoutPhantom
+  without-phantom-in area n =
+      branch (EndsWell g) (ltb n (leastFrame g)) (λ _. end-frame-in (refused 13) (omega arith))
+      (λ _. branch (EndsWell g) (good (g .check) (take n area)) (λ _. end-frame-in (packet (r .turn) (n - g .check .fcsLength)) tt)
+      (λ _. end-frame-in (refused 14) (omega arith)))
 
-  close-in : (area : List ℕ) → EndsWell g (close g r area)
-  unfolding close
-  close-in area =
+  step5-in : (area : List ℕ) → EndsWell g (step5Flag g r area)
+  unfolding step5Flag
+  step5-in area =
       branch (EndsWell g) (not (eqb (r .refusal) 0))
-      (λ e. ends-in (refused (r .refusal)) (b .refusals (eqb-false (r .refusal) 0 (not-true (eqb (r .refusal) 0) e)) .0))
-      (λ _. branch (EndsWell g) (isNone (r .last)) (λ _. ends-in (refused 9) (omega arith))
+      (λ e. end-frame-in (refused (r .refusal)) (b .refusals (eqb-false (r .refusal) 0 (not-true (eqb (r .refusal) 0) e)) .0))
+      (λ _. branch (EndsWell g) (isNoBlock (r .last)) (λ _. end-frame-in (refused 9) (omega arith))
       (λ _. branch (EndsWell g) (ltb 0 (r .left))
-      (λ _. branch (EndsWell g) (g .pre) (λ _. hold-in) (λ _. ends-in (refused 11) (omega arith)))
-      (λ _. branch (EndsWell g) (isD0 (r .last)) (λ _. ends-in (refused 12) (omega arith)) (λ _. whole-in area (r .decoded - 1)))))
+      (λ _. branch (EndsWell g) (g .pre) (λ _. hold-in) (λ _. end-frame-in (refused 11) (omega arith)))
+      (λ _. branch (EndsWell g) (isD0 (r .last)) (λ _. end-frame-in (refused 12) (omega arith)) (λ _. without-phantom-in area (r .decoded - 1)))))
 
   flag-in : (area : List ℕ) → EndsWell g (atFlag g r area)
   unfolding atFlag
   flag-in area =
-      branch (EndsWell g) (r .framed) (λ _. close-in area) (λ e. record { agrees = ag; bounds = b; out = e; tells = tt })
+      branch (EndsWell g) (r .framed) (λ _. step5-in area) (λ e. record { agrees = ag; bounds = b; out = e; tells = tt })
 
 -- ---- the call, at a flag and at any other octet
 
@@ -473,7 +481,7 @@ pub record AfterFlag (g : Agreed) (h : Receive) : Type 0 where
   pub out : h .after .state .framed ≡ false
   pub tells : OfFrame (h .report)
 
-pub flag-ends : (g : Agreed) (e : Receiving) → Ready g e → AfterFlag g (receive e flag)
+pub flag-ends : (g : Agreed) (e : ReceiverEnd) → Ready g e → AfterFlag g (receive e flag)
 flag-ends g e z =
     let t = flag-in g (e .state) (z .agrees) (z .bounds) (work e .area) in
     rw (receive-flag g e z)
@@ -487,11 +495,11 @@ pub record AfterOctet (g : Agreed) (h : Receive) : Type 0 where
   pub ready : Ready g (h .after)
   pub silent : h .report ≡ quiet
 
-pub other-passes : (g : Agreed) (e : Receiving) (x : ℕ) → (x ≡ flag → ⊥) → Ready g e → AfterOctet g (receive e x)
+pub other-passes : (g : Agreed) (e : ReceiverEnd) (x : ℕ) → (x ≡ flag → ⊥) → Ready g e → AfterOctet g (receive e x)
 other-passes g e x other·x z =
     rw (receive-other g e z x other·x)
-    (record { ready = put-back-ready g e z _ (inside-in g (work e) (fromLine x) (fit-work g e z)); silent = refl })
+    (record { ready = put-back-ready g e z _ (steps-in g (work e) (fromLine x) (fit-work g e z)); silent = refl })
 
-pub receive-ready : (g : Agreed) (e : Receiving) (x : ℕ) → Ready g e → Ready g (receive e x .after)
+pub receive-ready : (g : Agreed) (e : ReceiverEnd) (x : ℕ) → Ready g e → Ready g (receive e x .after)
 receive-ready g e x z =
     decide (eqb x flag) (λ k. rw (eqb-true x flag k) (flag-ends g e z .ready)) (λ k. other-passes g e x (eqb-false x flag k) z .ready)

@@ -1,45 +1,44 @@
 -- The receiver's steps in each of their cases, from the tests that lead to it.
--- Assumes nothing.
 use mathlib.Core.Path.{_≡_, refl, ap, _∙_}
-use mathlib.Core.Bool.{Bool, true, false, not, _&&_, _||_, and-false, or-comm}
+use mathlib.Core.Bool.{Bool, true, false, not, _&&_, _||_, and-false}
 use mathlib.Core.List.{List, [], _∷_}
 use Prim.Native.Nat.{ℕ, _+_, _-_, _≤_, _<_}
 use native.Mathlib.Omega.{arith}
-use borrow.Author.Tests.{lt-ltb, le-ltb, ltb-false, eq-eqb, ne-eqb, le-leb}
+use borrow.Author.Tests.{lt-ltb, le-ltb, eq-eqb, ne-eqb, le-leb}
 use lib.Dec.{leb, ltb, eqb}
 use lib.ListN.{length, replicate}
 use Rattle.fcs.specs.Notation.{if_then_else_}
 use Rattle.cobs.specs.CodeBlocks.{flag, fromLine, meaning}
-use Rattle.cobs.specs.declared.Meaning.the-variants.{Counts}
+use Rattle.cobs.specs.declared.Meaning.the-variants.{InTable}
 use Rattle.cobs.proofs.Tests.{decide}
 use Rattle.link.specs.Agreed.{Agreed, agreed, mostDecoded}
 use Rattle.link.specs.Answers.{quiet, refused}
 use Rattle.link.specs.Receiver.{
   Receiver,
   Working,
-  Receiving,
+  ReceiverEnd,
   Receive,
-  due,
-  begin,
-  blockOf,
+  withDue,
+  step2BeginBlock,
+  lastBlock,
   heldOk,
   freshOk,
-  blockOk,
+  lastBlockOk,
   inBounds,
-  refuse,
-  wrote,
-  decode,
-  dataOctet,
-  byMeaning,
-  code,
-  inside,
-  isNone,
+  step4Refuse,
+  step3Write,
+  step3Decode,
+  step3Data,
+  step2ByMeaning,
+  step2Code,
+  steps1To4,
+  isNoBlock,
   isD0,
-  ends,
-  hold,
-  brokenOff,
-  whole,
-  close,
+  step5End,
+  step5Hold,
+  step5InBlock,
+  step5WithoutPhantom,
+  step5Flag,
   atFlag,
   flagged,
   receive,
@@ -51,7 +50,7 @@ use Rattle.link.specs.Receiver.{
 abbrev pub marksOk : Receiver → Bool
 marksOk r =
     (eqb (r .refusal) 0 || leb 5 (r .refusal) && leb (r .refusal) 10)
-    && (if r .framed then not (eqb (r .refusal) 0) || blockOk (r .last) r else freshOk r)
+    && (if r .framed then not (eqb (r .refusal) 0) || lastBlockOk (r .last) r else freshOk r)
 
 module _ (g : Agreed) (r : Receiver) where
   pub counts-ok : r .decoded ≤ mostDecoded g → heldOk g (r .held) ≡ true → r .left ≤ 207 → r .zeros ≤ 2 → inBounds g r ≡ marksOk r
@@ -67,7 +66,7 @@ module _ (r : Receiver) where
   pub refusal-ok : (r .refusal ≡ 0 → ⊥) → 5 ≤ r .refusal → r .refusal ≤ 10 → marksOk r ≡ r .framed
   refusal-ok e l m = simp (ne-eqb _ _ e, le-leb _ _ l, le-leb _ _ m, and-false, choice-same)
 
-  pub framed-ok : r .refusal ≡ 0 → r .framed ≡ true → marksOk r ≡ blockOk (r .last) r
+  pub framed-ok : r .refusal ≡ 0 → r .framed ≡ true → marksOk r ≡ lastBlockOk (r .last) r
   framed-ok e f = simp (eq-eqb _ _ e, f)
 
   pub unframed-ok : r .refusal ≡ 0 → r .framed ≡ false → marksOk r ≡ freshOk r
@@ -76,119 +75,110 @@ module _ (r : Receiver) where
 -- ---- a data octet
 
 module _ (g : Agreed) (w : Working) (x : ℕ) where
-  pub no-room : mostDecoded g ≤ w .state .decoded → dataOctet g w x ≡ refuse 10 w
-  unfolding dataOctet
+  pub no-room : mostDecoded g ≤ w .state .decoded → step3Data g w x ≡ step4Refuse 10 w
+  unfolding step3Data
   no-room h = let t : mostDecoded g < w .state .decoded + 1 = omega arith in simp (lt-ltb _ _ t)
 
   pub last-octet : w .state .decoded < mostDecoded g → w .state .left ≡ 1
-      → dataOctet g w x ≡ decode g (replicate (w .state .zeros) 0) (wrote (x ∷ []) (record { state = due 0 0 (w .state); area = w .area }))
-  unfolding dataOctet
+      → step3Data g w x ≡ step3Decode g (replicate (w .state .zeros) 0) (step3Write (x ∷ []) (record { state = withDue 0 0 (w .state); area = w .area }))
+  unfolding step3Data
   last-octet h l = let t : w .state .decoded + 1 ≤ mostDecoded g = omega arith in simp (le-ltb _ _ t, eq-eqb _ _ l)
 
   pub inner-octet : w .state .decoded < mostDecoded g → (w .state .left ≡ 1 → ⊥)
-      → dataOctet g w x ≡ wrote (x ∷ []) (record { state = due (w .state .left - 1) (w .state .zeros) (w .state); area = w .area })
-  unfolding dataOctet
+      → step3Data g w x ≡ step3Write (x ∷ []) (record { state = withDue (w .state .left - 1) (w .state .zeros) (w .state); area = w .area })
+  unfolding step3Data
   inner-octet h l = let t : w .state .decoded + 1 ≤ mostDecoded g = omega arith in simp (le-ltb _ _ t, ne-eqb _ _ l)
 
 -- ---- a code
 
 -- v: what decoding the zeros of a block without data made, from the state s in which the block begins
-module _ (w : Working) (c n z : ℕ) (m : meaning (agreed (w .state .settings) .zxe) c ≡ Counts n z) where
-  pub no-data : {s : Receiver} {v : Working} → n ≡ 0 → s ≡ begin (blockOf c) 0 0 (w .state)
-      → v ≡ decode (agreed (s .settings)) (replicate z 0) (record { state = s; area = w .area })
-      → v ≡ code (agreed (w .state .settings)) w c
-  unfolding code byMeaning
+module _ (w : Working) (c n z : ℕ) (m : meaning (agreed (w .state .settings) .zxe) c ≡ InTable n z) where
+  pub no-data : {s : Receiver} {v : Working} → n ≡ 0 → s ≡ step2BeginBlock (lastBlock c) 0 0 (w .state)
+      → v ≡ step3Decode (agreed (s .settings)) (replicate z 0) (record { state = s; area = w .area })
+      → v ≡ step2Code (agreed (w .state .settings)) w c
+  unfolding step2Code step2ByMeaning
   no-data e b d = simp (m, eq-eqb _ _ e) (rw b at d)
 
-  pub some-data : (n ≡ 0 → ⊥) → code (agreed (w .state .settings)) w c ≡ record { state = begin (blockOf c) n z (w .state); area = w .area }
-  unfolding code byMeaning
+  pub some-data : (n ≡ 0 → ⊥) → step2Code (agreed (w .state .settings)) w c ≡ record { state = step2BeginBlock (lastBlock c) n z (w .state); area = w .area }
+  unfolding step2Code step2ByMeaning
   some-data e = simp (m, ne-eqb _ _ e)
 
-skips : (g : Agreed) (w : Working) (x : ℕ) → (w .state .refusal ≡ 0 → ⊥) → inside g w x ≡ w
-unfolding inside
+skips : (g : Agreed) (w : Working) (x : ℕ) → (w .state .refusal ≡ 0 → ⊥) → steps1To4 g w x ≡ w
+unfolding steps1To4
 skips g w x n = simp (ne-eqb _ _ n)
 
 -- ---- the flag of a frame
 
 module _ (g : Agreed) (r : Receiver) (area : List ℕ) where
-  pub remembered : (r .refusal ≡ 0 → ⊥) → close g r area ≡ ends (refused (r .refusal)) r
-  unfolding close
+  pub remembered : (r .refusal ≡ 0 → ⊥) → step5Flag g r area ≡ step5End (refused (r .refusal)) r
+  unfolding step5Flag
   remembered n = simp (ne-eqb _ _ n)
 
   module _ (n : r .refusal ≡ 0) where
-    pub no-block : isNone (r .last) ≡ true → close g r area ≡ ends (refused 9) r
-    unfolding close
+    pub no-block : isNoBlock (r .last) ≡ true → step5Flag g r area ≡ step5End (refused 9) r
+    unfolding step5Flag
     no-block l = simp (eq-eqb _ _ n, l)
 
-    module _ (l : isNone (r .last) ≡ false) where
-      pub broken-off : 0 < r .left → close g r area ≡ brokenOff g r
-      unfolding close
+    module _ (l : isNoBlock (r .last) ≡ false) where
+      pub broken-off : 0 < r .left → step5Flag g r area ≡ step5InBlock g r
+      unfolding step5Flag
       broken-off b = simp (eq-eqb _ _ n, l, lt-ltb _ _ b)
 
-      pub full-block : r .left ≤ 0 → isD0 (r .last) ≡ true → close g r area ≡ ends (refused 12) r
-      unfolding close
+      pub full-block : r .left ≤ 0 → isD0 (r .last) ≡ true → step5Flag g r area ≡ step5End (refused 12) r
+      unfolding step5Flag
       full-block b d = simp (eq-eqb _ _ n, l, le-ltb _ _ b, d)
 
-      pub all-blocks : r .left ≤ 0 → isD0 (r .last) ≡ false → close g r area ≡ whole g r area (r .decoded - 1)
-      unfolding close
+      pub all-blocks : r .left ≤ 0 → isD0 (r .last) ≡ false → step5Flag g r area ≡ step5WithoutPhantom g r area (r .decoded - 1)
+      unfolding step5Flag
       all-blocks b d = simp (eq-eqb _ _ n, l, le-ltb _ _ b, d)
 
 -- ---- the call
 
-neither : (a b : Bool) → (a || b) ≡ false → a ≡ false
-neither true b e = e
-neither false b e = refl
-
--- the areas are long enough
-pub long-enough : (m n : ℕ) → (ltb m 2051 || ltb n 2051) ≡ false → (2051 ≤ m) × (2051 ≤ n)
-long-enough m n e =
-    (ltb-false _ _ (neither (ltb m 2051) (ltb n 2051) e), ltb-false _ _ (neither (ltb n 2051) (ltb m 2051) (or-comm (ltb n 2051) (ltb m 2051) ∙ e)))
-
 -- what is answered of an octet that is no flag, from what it made of one area
-abbrev pub inFirst : Receiving → Working → Receive
+abbrev pub inFirst : ReceiverEnd → Working → Receive
 inFirst e w = record { report = quiet; after = record { state = w .state; first = w .area; second = e .second } }
 
-abbrev pub inSecond : Receiving → Working → Receive
+abbrev pub inSecond : ReceiverEnd → Working → Receive
 inSecond e w = record { report = quiet; after = record { state = w .state; first = e .first; second = w .area } }
 
-module _ (e : Receiving) (x : ℕ) where
+module _ (e : ReceiverEnd) (x : ℕ) where
   abbrev settled : Agreed
   settled = agreed (e .state .settings)
 
   abbrev pub short : Bool
-  short = ltb (length (e .first)) 2051 || ltb (length (e .second)) 2051
+  short = ltb (length (e .first)) (mostDecoded settled) || ltb (length (e .second)) (mostDecoded settled)
 
   pub too-short : short ≡ true → receive e x ≡ record { report = refused 2; after = e }
-  unfolding agreed receive
+  unfolding receive
   too-short s = simp s
 
   module _ (s : short ≡ false) where
     pub out-of-bounds : inBounds settled (e .state) ≡ false → receive e x ≡ record { report = refused 3; after = e }
-    unfolding agreed receive
+    unfolding receive
     out-of-bounds b = simp (s, b)
 
     module _ (b : inBounds settled (e .state) ≡ true) where
-      pub flag-first : x ≡ flag → e .state .second ≡ false → receive e x ≡ flagged e (atFlag settled (e .state) (e .first))
-      unfolding agreed receive
+      pub flag-first : x ≡ flag → e .state .turn ≡ false → receive e x ≡ flagged e (atFlag settled (e .state) (e .first))
+      unfolding receive
       flag-first h t = simp (s, b, eq-eqb _ _ h, t)
 
-      pub flag-second : x ≡ flag → e .state .second ≡ true → receive e x ≡ flagged e (atFlag settled (e .state) (e .second))
-      unfolding agreed receive
+      pub flag-second : x ≡ flag → e .state .turn ≡ true → receive e x ≡ flagged e (atFlag settled (e .state) (e .second))
+      unfolding receive
       flag-second h t = simp (s, b, eq-eqb _ _ h, t)
 
-      pub octet-first : (x ≡ flag → ⊥) → e .state .second ≡ false
-          → receive e x ≡ inFirst e (inside settled (record { state = e .state; area = e .first }) (fromLine x))
-      unfolding agreed receive
+      pub octet-first : (x ≡ flag → ⊥) → e .state .turn ≡ false
+          → receive e x ≡ inFirst e (steps1To4 settled (record { state = e .state; area = e .first }) (fromLine x))
+      unfolding receive
       octet-first h t = simp (s, b, ne-eqb _ _ h, t)
 
-      pub octet-second : (x ≡ flag → ⊥) → e .state .second ≡ true
-          → receive e x ≡ inSecond e (inside settled (record { state = e .state; area = e .second }) (fromLine x))
-      unfolding agreed receive
+      pub octet-second : (x ≡ flag → ⊥) → e .state .turn ≡ true
+          → receive e x ≡ inSecond e (steps1To4 settled (record { state = e .state; area = e .second }) (fromLine x))
+      unfolding receive
       octet-second h t = simp (s, b, ne-eqb _ _ h, t)
 
       -- a refusal is remembered
       pub skipped : (x ≡ flag → ⊥) → (e .state .refusal ≡ 0 → ⊥) → receive e x ≡ record { report = quiet; after = e }
       skipped h n =
-          decide (e .state .second)
+          decide (e .state .turn)
           (λ t. octet-second h t ∙ ap (inSecond e) (skips settled (record { state = e .state; area = e .second }) (fromLine x) n))
           (λ t. octet-first h t ∙ ap (inFirst e) (skips settled (record { state = e .state; area = e .first }) (fromLine x) n))

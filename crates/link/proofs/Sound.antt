@@ -1,6 +1,5 @@
 -- The sender by itself: through every call of a run its areas hold the frames of the packets that its lanes were loaded with, and the
 -- block on the line stands in D.
--- Assumes nothing.
 use mathlib.Core.Path.{_≡_, refl, sym, ap, _∙_}
 use mathlib.Core.Bool.{Bool, true, false, not, _||_}
 use mathlib.Core.List.{List, [], _∷_, _++_}
@@ -13,69 +12,69 @@ use lib.Seq.{getD-drop, take-append-seam}
 use Rattle.cobs.specs.CodeBlocks.{frame}
 use Rattle.cobs.proofs.Tests.{branch}
 use Rattle.link.specs.Agreed.{Agreed, agreed, leastPacket, largestFrame}
-use Rattle.link.specs.Sender.{Lane, low, high, OnLine, neither, sending, Queue, Sender, Step, area, dataOf, inBounds, next, put}
-use Rattle.link.specs.Runs.{Packet, Station, opened, marked, loadedBy, afterLoad, afterStep, afterNext, run, Call, loading, nextOctet}
+use Rattle.link.specs.Sender.{Lane, low, high, OnLine, noLane, sending, LaneState, Sender, Step, laneArea, laneD, inBounds, next, putFrame}
+use Rattle.link.specs.Runs.{LoadedPacket, Station, freshStation, noteBegun, loadedBy, afterLoad, afterStep, afterNext, run, SenderCall, loading, nextOctet}
 use Rattle.link.proofs.Tests.{true-false, false-true}
-use Rattle.link.proofs.Way.{Advance, last, more, covers, opens, Way, ends, cuts, warns, goes, sender, Turn, cut·due, idles, takes·up, begins·high, begins·low, high·on, low·on, turn}
+use Rattle.link.proofs.Way.{Advance, last, more, covers, opens, Way, ends, cuts, warns, goes, sender, Turn, cut·due, idles, resumes·low, begins·high, begins·low, high·on, low·on, turn}
 use Rattle.link.proofs.Follow.{BlockAt}
 use Rattle.link.proofs.SenderBounds as bounds
 
-abbrev pub station : Sender → List ℕ → List ℕ → Option Packet → Option Packet → Station
+abbrev pub station : Sender → List ℕ → List ℕ → Option LoadedPacket → Option LoadedPacket → Station
 station s al ah bl bh = record { end = record { state = s; low = al; high = ah }; lanes = record { low = bl; high = bh } }
 
 -- A lane's area holds the frame of the packet that was loaded.
-pub record StockOf (g : Agreed) (q : Queue) (a : List ℕ) (m : Packet) : Type 0 where
+pub record StockOf (g : Agreed) (q : LaneState) (a : List ℕ) (m : LoadedPacket) : Type 0 where
   pub big : leastPacket ≤ length (m .octets)
   pub long : q .length ≡ length (frame (g .check) (m .octets))
   pub same : take (q .length) a ≡ frame (g .check) (m .octets)
 
-abbrev pub Stock : Agreed → Queue → List ℕ → Option Packet → Type 0
+abbrev pub Stock : Agreed → LaneState → List ℕ → Option LoadedPacket → Type 0
 Stock g q a none = q .length ≡ 0
 Stock g q a (some m) = StockOf g q a m
 
 -- a packet not begun before the chosen flag
-abbrev pub Young : Option Packet → Type 0
-Young none = Unit {0}
-Young (some m) = m .begun ≡ false
+abbrev pub NotBegun : Option LoadedPacket → Type 0
+NotBegun none = Unit {0}
+NotBegun (some m) = m .begunUpToFlag ≡ false
 
 -- a lane that has sent nothing of what it holds
-pub record Rested (q : Queue) (m : Option Packet) : Type 0 where
+pub record Rested (q : LaneState) (m : Option LoadedPacket) : Type 0 where
   pub start : q .position ≡ 0
-  pub young : Young m
+  pub not-begun : NotBegun m
 
 -- a lane that was broken off, or is about to be
-pub record Waiting (g : Agreed) (q : Queue) : Type 0 where
+pub record Waiting (g : Agreed) (q : LaneState) : Type 0 where
   pub short : q .position ≤ q .length
   pub pre : g .pre ≡ true
 
-abbrev pub Aside : Agreed → Bool → Queue → Option Packet → Type 0
+abbrev pub Aside : Agreed → Bool → LaneState → Option LoadedPacket → Type 0
 Aside g true q m = Waiting g q
 Aside g false q m = Rested q m
 
 -- by the lane on the line, the mark suspended and whether a cut is due
 abbrev pub Line : Agreed → OnLine → Bool → Bool → Station → Type 0
-Line g neither u c w = Rested (w .end .state .high) (w .lanes .high) × Aside g u (w .end .state .low) (w .lanes .low)
+Line g noLane u c w = Rested (w .end .state .high) (w .lanes .high) × Aside g u (w .end .state .low) (w .lanes .low)
 Line g (sending high) u c w =
-    BlockAt (dataOf (w .end .state .high) (w .end .high)) (w .end .state .high .position) (w .end .state .left) (w .end .state .zeros)
+    BlockAt (laneD (w .end .state .high) (w .end .high)) (w .end .state .high .position) (w .end .state .left) (w .end .state .zeros)
     × Aside g u (w .end .state .low) (w .lanes .low)
 Line g (sending low) u false w =
-    BlockAt (dataOf (w .end .state .low) (w .end .low)) (w .end .state .low .position) (w .end .state .left) (w .end .state .zeros)
+    BlockAt (laneD (w .end .state .low) (w .end .low)) (w .end .state .low .position) (w .end .state .left) (w .end .state .zeros)
     × Rested (w .end .state .high) (w .lanes .high)
 Line g (sending low) u true w = Waiting g (w .end .state .low) × Rested (w .end .state .high) (w .lanes .high)
 
 pub record Sound (g : Agreed) (w : Station) : Type 0 where
   pub agrees : agreed (w .end .state .settings) ≡ g
-  pub inside : bounds.Bounds g (w .end .state)
+  pub in·bounds : bounds.Bounds g (w .end .state)
   pub stock·low : Stock g (w .end .state .low) (w .end .low) (w .lanes .low)
   pub stock·high : Stock g (w .end .state .high) (w .end .high) (w .lanes .high)
   pub line : Line g (w .end .state .on) (w .end .state .suspended) (w .end .state .cut) w
 
-pub stock-marked : (g : Agreed) (q q′ : Queue) (a : List ℕ) (early : Bool) (m : Option Packet) → q′ .length ≡ q .length → Stock g q a m
-    → Stock g q′ a (marked early m)
-stock-marked g q q′ a early none e h = e ∙ h
-stock-marked g q q′ a early (some m) e h = record { big = h .big; long = e ∙ h .long; same = ap (λ (n : ℕ). take n a) e ∙ h .same }
+pub stock-noted : (g : Agreed) (q q′ : LaneState) (a : List ℕ) (early : Bool) (m : Option LoadedPacket) → q′ .length ≡ q .length → Stock g q a m
+    → Stock g q′ a (noteBegun early m)
+stock-noted g q q′ a early none e h = e ∙ h
+stock-noted g q q′ a early (some m) e h = record { big = h .big; long = e ∙ h .long; same = ap (λ (n : ℕ). take n a) e ∙ h .same }
 
-pub stock-fits : (g : Agreed) (q : Queue) (a : List ℕ) (m : Option Packet) → Stock g q a m → q .length ≤ length a
+pub stock-fits : (g : Agreed) (q : LaneState) (a : List ℕ) (m : Option LoadedPacket) → Stock g q a m → q .length ≤ length a
 stock-fits g q a none h = omega arith
 stock-fits g q a (some m) h =
     let e : length (take (q .length) a) ≡ q .length = ap length (h .same) ∙ sym (h .long) in
@@ -86,146 +85,146 @@ stock-fits g q a (some m) h =
 block-0 : (d : List ℕ) (pos n z : ℕ) → n ≡ 0 → z ≡ 0 → BlockAt d pos n z
 block-0 d pos n z e f = record { nonzero = λ i h. absurd (omega arith); zero = λ i h k. absurd (omega arith) }
 
-module _ (g : Agreed) (q : Queue) (a : List ℕ) (n z : ℕ) (fits : q .length ≤ length a) (even : n ≡ 0 → z ≡ 0) where
+module _ (g : Agreed) (q : LaneState) (a : List ℕ) (n z : ℕ) (fits : q .length ≤ length a) (even : n ≡ 0 → z ≡ 0) where
   -- whatever octet of D is sent, the block stands next again
-  pub block-on : BlockAt (dataOf q a) (q .position) n z → q .position ≤ q .length → (x pos n′ z′ : ℕ)
-      → Advance (g .zxe) (dataOf q a) (q .position) n z x pos n′ z′ → BlockAt (dataOf q a) pos n′ z′
-  block-on b h x pos n′ z′ (last e) = block-0 (dataOf q a) _ 0 0 refl refl
+  pub block-on : BlockAt (laneD q a) (q .position) n z → q .position ≤ q .length → (x pos n′ z′ : ℕ)
+      → Advance (g .zxe) (laneD q a) (q .position) n z x pos n′ z′ → BlockAt (laneD q a) pos n′ z′
+  block-on b h x pos n′ z′ (last e) = block-0 (laneD q a) _ 0 0 refl refl
   block-on b h x pos n′ z′ (more e f) =
-      let d = dataOf q a in
+      let d = laneD q a in
       let at : (i : ℕ) → getD d (q .position + 1 + i) 0 ≡ getD d (q .position + (1 + i)) 0 = (λ i. ap (λ (j : ℕ). getD d j 0) (omega arith)) in
       record {
         nonzero = λ i k s. b .nonzero (1 + i) (omega arith) (sym (at i) ∙ s);
         zero = λ i k l. at i ∙ b .zero (1 + i) (omega arith) (omega arith);
       }
-  block-on b h x pos n′ z′ (covers e f) = block-0 (dataOf q a) _ n z e (even e)
+  block-on b h x pos n′ z′ (covers e f) = block-0 (laneD q a) _ n z e (even e)
   block-on b h x pos n′ z′ (opens e f) =
       let ch = bounds.stands g q a fits h in
-      let d = dataOf q a in
+      let d = laneD q a in
       record {
         nonzero = λ i k s. ch .nonzero i k (getD-drop (q .position) d i 0 ∙ s);
         zero = λ i k l. sym (getD-drop (q .position) d i 0) ∙ ch .zero i k l;
       }
 
-module _ (g : Agreed) (early : Bool) (ql qh : Queue) (n z t : ℕ) (al ah : List ℕ) (bl bh : Option Packet) where
+module _ (g : Agreed) (early : Bool) (ql qh : LaneState) (n z t : ℕ) (al ah : List ℕ) (bl bh : Option LoadedPacket) where
   -- steps 3 to 6 of the high lane
   pub sound-high : (u : Bool) → Sound g (station (sender ql qh n z (sending high) u false t) al ah bl bh)
-      → (st : Step) → Way g high (sender ql qh n z (sending high) u false t) (dataOf qh ah) st
+      → (st : Step) → Way g high (sender ql qh n z (sending high) u false t) (laneD qh ah) st
       → Sound g (afterStep early (station (sender ql qh n z (sending high) u false t) al ah bl bh) st)
   sound-high u s st (ends over) =
-      let k = bounds.high-keeps g ql qh n z t u ah (stock-fits g qh ah bh (s .stock·high)) (s .inside) st (ends over) in
+      let k = bounds.high-keeps g ql qh n z t u ah (stock-fits g qh ah bh (s .stock·high)) (s .in·bounds) st (ends over) in
       record {
         agrees = s .agrees;
-        inside = k .bounds;
+        in·bounds = k .bounds;
         stock·low = s .stock·low;
         stock·high = refl;
-        line = (record { start = refl; young = tt }, s .line .1);
+        line = (record { start = refl; not-begun = tt }, s .line .1);
       }
   sound-high u s st (cuts short e pre urgent f) = bounds.low-high e
   sound-high u s st (warns short e pre urgent f) = bounds.low-high e
   sound-high u s st (goes x pos n′ z′ short v) =
       let fits = stock-fits g qh ah bh (s .stock·high) in
-      let k = bounds.high-keeps g ql qh n z t u ah fits (s .inside) st (goes x pos n′ z′ short v) in
+      let k = bounds.high-keeps g ql qh n z t u ah fits (s .in·bounds) st (goes x pos n′ z′ short v) in
       record {
         agrees = s .agrees;
-        inside = k .bounds;
+        in·bounds = k .bounds;
         stock·low = s .stock·low;
-        stock·high = stock-marked g qh _ ah early bh refl (s .stock·high);
-        line = (block-on g qh ah n z fits (s .inside .even) (s .line .0) short x pos n′ z′ v, s .line .1);
+        stock·high = stock-noted g qh _ ah early bh refl (s .stock·high);
+        line = (block-on g qh ah n z fits (s .in·bounds .even) (s .line .0) short x pos n′ z′ v, s .line .1);
       }
 
   -- of the low lane
-  low-inside : Sound g (station (sender ql qh n z (sending low) false false t) al ah bl bh)
-      → (st : Step) → Way g low (sender ql qh n z (sending low) false false t) (dataOf ql al) st → bounds.Bounds g (st .state)
-  low-inside s st w = bounds.low-keeps g ql qh n z t al (stock-fits g ql al bl (s .stock·low)) (s .inside) st w .bounds
+  low-in-bounds : Sound g (station (sender ql qh n z (sending low) false false t) al ah bl bh)
+      → (st : Step) → Way g low (sender ql qh n z (sending low) false false t) (laneD ql al) st → bounds.Bounds g (st .state)
+  low-in-bounds s st w = bounds.low-keeps g ql qh n z t al (stock-fits g ql al bl (s .stock·low)) (s .in·bounds) st w .bounds
 
   pub sound-low : Sound g (station (sender ql qh n z (sending low) false false t) al ah bl bh)
-      → (st : Step) → Way g low (sender ql qh n z (sending low) false false t) (dataOf ql al) st
+      → (st : Step) → Way g low (sender ql qh n z (sending low) false false t) (laneD ql al) st
       → Sound g (afterStep early (station (sender ql qh n z (sending low) false false t) al ah bl bh) st)
   sound-low s st (ends over) =
       record {
         agrees = s .agrees;
-        inside = low-inside s st (ends over);
+        in·bounds = low-in-bounds s st (ends over);
         stock·low = refl;
         stock·high = s .stock·high;
-        line = (s .line .1, record { start = refl; young = tt });
+        line = (s .line .1, record { start = refl; not-begun = tt });
       }
   sound-low s st (cuts short e pre urgent f) =
       record {
         agrees = s .agrees;
-        inside = low-inside s st (cuts short e pre urgent f);
-        stock·low = stock-marked g ql ql al early bl refl (s .stock·low);
+        in·bounds = low-in-bounds s st (cuts short e pre urgent f);
+        stock·low = stock-noted g ql ql al early bl refl (s .stock·low);
         stock·high = s .stock·high;
         line = (s .line .1, record { short = short; pre = pre });
       }
   sound-low s st (warns short e pre urgent f) =
       record {
         agrees = s .agrees;
-        inside = low-inside s st (warns short e pre urgent f);
-        stock·low = stock-marked g ql ql al early bl refl (s .stock·low);
+        in·bounds = low-in-bounds s st (warns short e pre urgent f);
+        stock·low = stock-noted g ql ql al early bl refl (s .stock·low);
         stock·high = s .stock·high;
         line = (record { short = short; pre = pre }, s .line .1);
       }
   sound-low s st (goes x pos n′ z′ short v) =
       let fits = stock-fits g ql al bl (s .stock·low) in
-      let k = bounds.low-keeps g ql qh n z t al fits (s .inside) st (goes x pos n′ z′ short v) in
+      let k = bounds.low-keeps g ql qh n z t al fits (s .in·bounds) st (goes x pos n′ z′ short v) in
       record {
         agrees = s .agrees;
-        inside = k .bounds;
-        stock·low = stock-marked g ql _ al early bl refl (s .stock·low);
+        in·bounds = k .bounds;
+        stock·low = stock-noted g ql _ al early bl refl (s .stock·low);
         stock·high = s .stock·high;
-        line = (block-on g ql al n z fits (s .inside .even) (s .line .0) short x pos n′ z′ v, s .line .1);
+        line = (block-on g ql al n z fits (s .in·bounds .even) (s .line .0) short x pos n′ z′ v, s .line .1);
       }
 
   -- a lane comes on the line
-  pub enter-high : (u : Bool) → 0 < qh .length → Sound g (station (sender ql qh n z neither u false t) al ah bl bh)
+  pub enter-high : (u : Bool) → 0 < qh .length → Sound g (station (sender ql qh n z noLane u false t) al ah bl bh)
       → Sound g (station (sender ql qh n z (sending high) u false t) al ah bl bh)
   enter-high u h s =
       record {
         agrees = s .agrees;
-        inside = bounds.enter-high g ql qh n z t u h (s .inside);
+        in·bounds = bounds.enter-high g ql qh n z t u h (s .in·bounds);
         stock·low = s .stock·low;
         stock·high = s .stock·high;
-        line = (block-0 (dataOf qh ah) (qh .position) n z (s .inside .line .0) (s .inside .line .1), s .line .1);
+        line = (block-0 (laneD qh ah) (qh .position) n z (s .in·bounds .line .0) (s .in·bounds .line .1), s .line .1);
       }
 
-  pub enter-low : 0 < ql .length → Sound g (station (sender ql qh n z neither false false t) al ah bl bh)
+  pub enter-low : 0 < ql .length → Sound g (station (sender ql qh n z noLane false false t) al ah bl bh)
       → Sound g (station (sender ql qh n z (sending low) false false t) al ah bl bh)
   enter-low h s =
       record {
         agrees = s .agrees;
-        inside = bounds.enter-low g ql qh n z t false h (s .inside);
+        in·bounds = bounds.enter-low g ql qh n z t false h (s .in·bounds);
         stock·low = s .stock·low;
         stock·high = s .stock·high;
-        line = (block-0 (dataOf ql al) (ql .position) n z (s .inside .line .0) (s .inside .line .1), s .line .0);
+        line = (block-0 (laneD ql al) (ql .position) n z (s .in·bounds .line .0) (s .in·bounds .line .1), s .line .0);
       }
 
   -- whichever step applies
   sound-turn : (o : OnLine) (u c : Bool) (st : Step) → Turn g ql qh n z t al ah o u c st → Sound g (station (sender ql qh n z o u c t) al ah bl bh)
       → Sound g (afterStep early (station (sender ql qh n z o u c t) al ah bl bh) st)
-  sound-turn neither u c st cut·due s = true-false (s .inside .line .2)
-  sound-turn (sending high) u c st cut·due s = true-false (s .inside .line .1)
+  sound-turn noLane u c st cut·due s = true-false (s .in·bounds .line .2)
+  sound-turn (sending high) u c st cut·due s = true-false (s .in·bounds .line .1)
   sound-turn (sending low) u c st cut·due s =
       record {
         agrees = s .agrees;
-        inside = bounds.cut-keeps g ql qh n z t u (s .inside) .bounds;
-        stock·low = stock-marked g ql ql al early bl refl (s .stock·low);
+        in·bounds = bounds.cut-keeps g ql qh n z t u (s .in·bounds) .bounds;
+        stock·low = stock-noted g ql ql al early bl refl (s .stock·low);
         stock·high = s .stock·high;
         line = (s .line .1, s .line .0);
       }
   sound-turn o u c st idles s = s
-  sound-turn o u c st (takes·up h) s =
+  sound-turn o u c st (resumes·low h) s =
       record {
         agrees = s .agrees;
-        inside = bounds.enter-low g ql qh n z t true h (s .inside);
-        stock·low = stock-marked g ql ql al early bl refl (s .stock·low);
+        in·bounds = bounds.enter-low g ql qh n z t true h (s .in·bounds);
+        stock·low = stock-noted g ql ql al early bl refl (s .stock·low);
         stock·high = s .stock·high;
-        line = (block-0 (dataOf ql al) (ql .position) n z (s .inside .line .0) (s .inside .line .1), s .line .0);
+        line = (block-0 (laneD ql al) (ql .position) n z (s .in·bounds .line .0) (s .in·bounds .line .1), s .line .0);
       }
   sound-turn o u c st (begins·high h w) s = sound-high u (enter-high u h s) st w
   sound-turn o u c st (begins·low h w) s = sound-low (enter-low h s) st w
   sound-turn o u c st (high·on w) s = sound-high u s st w
-  sound-turn o true c st (low·on w) s = true-false (s .inside .line .1)
+  sound-turn o true c st (low·on w) s = true-false (s .in·bounds .line .1)
   sound-turn o false c st (low·on w) s = sound-low s st w
 
 -- ---- the calls
@@ -246,31 +245,31 @@ sound-next g early w s =
 
 -- a load
 pub loaded-stock : (g : Agreed) (p a : List ℕ) → leastPacket ≤ length p
-    → StockOf g (bounds.q·p g p) (frame (g .check) p ++ drop (length (frame (g .check) p)) a) (record { octets = p; begun = false })
+    → StockOf g (bounds.q·p g p) (frame (g .check) p ++ drop (length (frame (g .check) p)) a) (record { octets = p; begunUpToFlag = false })
 loaded-stock g p a h =
     record { big = h; long = refl; same = take-append-seam (frame (g .check) p) (drop (length (frame (g .check) p)) a) }
 
-module _ (g : Agreed) (p : List ℕ) (ql qh : Queue) (n z t : ℕ) (al ah : List ℕ) (bl bh : Option Packet) where
-  abbrev b·p : Option Packet
-  b·p = some (record { octets = p; begun = false })
+module _ (g : Agreed) (p : List ℕ) (ql qh : LaneState) (n z t : ℕ) (al ah : List ℕ) (bl bh : Option LoadedPacket) where
+  abbrev b·p : Option LoadedPacket
+  b·p = some (record { octets = p; begunUpToFlag = false })
 
   abbrev a·p : List ℕ → List ℕ
   a·p a = frame (g .check) p ++ drop (length (frame (g .check) p)) a
 
   line-low : (o : OnLine) (u c : Bool) → bounds.LowOff o u c → Line g o u c (station (sender ql qh n z o u c t) al ah bl bh)
       → Line g o u c (station (sender (bounds.q·p g p) qh n z o u c t) (a·p al) ah b·p bh)
-  line-low o u c bounds.low-off₁ l = (l .0, record { start = refl; young = refl })
-  line-low o u c bounds.low-off₂ l = (l .0, record { start = refl; young = refl })
+  line-low o u c bounds.low-off₁ l = (l .0, record { start = refl; not-begun = refl })
+  line-low o u c bounds.low-off₂ l = (l .0, record { start = refl; not-begun = refl })
 
   line-high : (o : OnLine) (u c : Bool) → bounds.HighOff o u c → Line g o u c (station (sender ql qh n z o u c t) al ah bl bh)
       → Line g o u c (station (sender ql (bounds.q·p g p) n z o u c t) al (a·p ah) bl b·p)
-  line-high o u c bounds.high-off₁ l = (record { start = refl; young = refl }, l .1)
-  line-high o u c bounds.high-off₂ l = (l .0, record { start = refl; young = refl })
-  line-high o u c bounds.high-off₃ l = (l .0, record { start = refl; young = refl })
+  line-high o u c bounds.high-off₁ l = (record { start = refl; not-begun = refl }, l .1)
+  line-high o u c bounds.high-off₂ l = (l .0, record { start = refl; not-begun = refl })
+  line-high o u c bounds.high-off₃ l = (l .0, record { start = refl; not-begun = refl })
 
 -- a run's load changes nothing, or is Done
 pub by-load : (g : Agreed) (l : Lane) (p : List ℕ) (w : Station) (P : Station → Type 0) → agreed (w .end .state .settings) ≡ g → P w
-    → (bounds.Accepts g l p (w .end .state) → P (loadedBy (put g l p (w .end .state) (area l (w .end))) l p w)) → P (afterLoad l p w)
+    → (bounds.Accepts g l p (w .end .state) → P (loadedBy (putFrame g l p (w .end .state) (laneArea l (w .end))) l p w)) → P (afterLoad l p w)
 unfolding afterLoad
 by-load g low p w P ag same f = bounds.by-load g low p (w .end .state) (w .end .low) (λ t. P (loadedBy t low p w)) ag (λ _. same) f
 by-load g high p w P ag same f = bounds.by-load g high p (w .end .state) (w .end .high) (λ t. P (loadedBy t high p w)) ag (λ _. same) f
@@ -283,19 +282,19 @@ pub high-is-off : (g : Agreed) (s : Sender) → bounds.Bounds g s → s .high .l
 high-is-off g s b e = bounds.high-off (s .low) (s .high) (s .left) (s .zeros) (s .on) (s .suspended) (s .cut) e (b .line)
 
 pub sound-load : (g : Agreed) (l : Lane) (p : List ℕ) (w : Station) → Sound g w → Sound g (afterLoad l p w)
-unfolding put
+unfolding putFrame
 sound-load g low p w s =
     let r = w .end .state in
     by-load g low p w (Sound g) (s .agrees) s
     (λ k.
     record {
       agrees = s .agrees;
-      inside = bounds.put-bounds g p (k .big) (k .small) low r (w .end .low) (k .free) (s .inside) .bounds;
+      in·bounds = bounds.put-bounds g p (k .big) (k .small) low r (w .end .low) (k .free) (s .in·bounds) .bounds;
       stock·low = loaded-stock g p (w .end .low) (k .big);
       stock·high = s .stock·high;
       line =
           line-low g p (r .low) (r .high) (r .left) (r .zeros) (r .settings) (w .end .low) (w .end .high) (w .lanes .low) (w .lanes .high)
-          (r .on) (r .suspended) (r .cut) (low-is-off g r (s .inside) (k .free)) (s .line);
+          (r .on) (r .suspended) (r .cut) (low-is-off g r (s .in·bounds) (k .free)) (s .line);
     })
 sound-load g high p w s =
     let r = w .end .state in
@@ -303,19 +302,19 @@ sound-load g high p w s =
     (λ k.
     record {
       agrees = s .agrees;
-      inside = bounds.put-bounds g p (k .big) (k .small) high r (w .end .high) (k .free) (s .inside) .bounds;
+      in·bounds = bounds.put-bounds g p (k .big) (k .small) high r (w .end .high) (k .free) (s .in·bounds) .bounds;
       stock·low = s .stock·low;
       stock·high = loaded-stock g p (w .end .high) (k .big);
       line =
           line-high g p (r .low) (r .high) (r .left) (r .zeros) (r .settings) (w .end .low) (w .end .high) (w .lanes .low) (w .lanes .high)
-          (r .on) (r .suspended) (r .cut) (high-is-off g r (s .inside) (k .free)) (s .line);
+          (r .on) (r .suspended) (r .cut) (high-is-off g r (s .in·bounds) (k .free)) (s .line);
     })
 
-pub sound-opened : (t : ℕ) (a b : List ℕ) → Sound (agreed t) (opened t a b)
-sound-opened t a b =
+pub sound-fresh : (t : ℕ) (a b : List ℕ) → Sound (agreed t) (freshStation t a b)
+sound-fresh t a b =
     record {
       agrees = refl;
-      inside =
+      in·bounds =
           record {
             low = record { size = λ k. absurd (k refl); place = omega arith };
             high = record { size = λ k. absurd (k refl); place = omega arith };
@@ -327,10 +326,10 @@ sound-opened t a b =
           };
       stock·low = refl;
       stock·high = refl;
-      line = (record { start = refl; young = tt }, record { start = refl; young = tt });
+      line = (record { start = refl; not-begun = tt }, record { start = refl; not-begun = tt });
     }
 
-pub sound-run : (g : Agreed) (w : Station) (cs : List Call) → Sound g w → Sound g (run w cs)
+pub sound-run : (g : Agreed) (w : Station) (cs : List SenderCall) → Sound g w → Sound g (run w cs)
 unfolding run
 sound-run g w [] s = s
 sound-run g w (loading l p ∷ cs) s = sound-run g (afterLoad l p w) cs (sound-load g l p w s)

@@ -1,9 +1,10 @@
 -- Proofs by the value of a test, beside those of `cobs`.
--- Assumes nothing.
 use mathlib.Core.Path.{_≡_, refl}
 use mathlib.Core.Bool.{Bool, true, false, cond, _&&_, _||_}
-use Prim.Native.Nat.{ℕ}
+use Prim.Native.Nat.{ℕ, _≤_}
 use native.Mathlib.Omega.{arith}
+use borrow.Author.Tests.{ltb-false, le-ltb}
+use lib.Dec.{ltb}
 
 -- a choice whose test is known
 pub if-so {ℓ} : {A : Type ℓ} (b : Bool) (x y : A) → b ≡ true → cond b x y ≡ x
@@ -34,6 +35,13 @@ or-right false b e = e
 pub or-cases : {Q : Type 0} (a b : Bool) → (a || b) ≡ true → (a ≡ true → Q) → (b ≡ true → Q) → Q
 or-cases true b e f g = f refl
 or-cases false b e f g = g e
+
+-- two lengths, neither of them below a limit
+pub both-long : (m a b : ℕ) → (ltb a m || ltb b m) ≡ false → (m ≤ a) × (m ≤ b)
+both-long m a b e = (ltb-false a m (or-left (ltb a m) (ltb b m) e), ltb-false b m (or-right (ltb a m) (ltb b m) e))
+
+pub none-short : (m a b : ℕ) → (m ≤ a) × (m ≤ b) → (ltb a m || ltb b m) ≡ false
+none-short m a b l = rw (le-ltb a m (l .0), le-ltb b m (l .1))
 
 -- six of them
 pub ands : (a b c d e f : Bool) → (a && b && c && d && e && f) ≡ true

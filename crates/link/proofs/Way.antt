@@ -1,6 +1,5 @@
 -- What next octet can do, one case for each kind of octet: proofs go by these, and not by the tests that chose them. Only this file
 -- looks at the tests.
--- Assumes nothing.
 use mathlib.Core.Path.{_≡_, refl}
 use mathlib.Core.Bool.{Bool, true, false, cond, not, _&&_}
 use mathlib.Core.List.{List}
@@ -12,7 +11,7 @@ use lib.ListN.{drop, getD}
 use Rattle.cobs.specs.CodeBlocks.{toLine, choice}
 use Rattle.cobs.proofs.Tests.{branch, and-left, and-right}
 use Rattle.link.specs.Agreed.{Agreed}
-use Rattle.link.specs.Sender.{Lane, low, high, OnLine, neither, sending, Queue, Sender, Step, closes, breaks, sends, nothing, empty, queue, loaded, dataOf, inLane, block, onLine, marks, isLow, cutOff, breakOff, sendData, sendCode, onward, takeLine, steps}
+use Rattle.link.specs.Sender.{Lane, low, high, OnLine, noLane, sending, LaneState, Sender, Step, closes, breaksOff, sends, sendsNothing, emptyLane, laneState, loaded, laneD, withLane, withBlock, withLine, withMarks, isLow, step1CutDue, step4BreakOff, step5Data, step6Code, steps3To6, step2NoLane, steps1To6}
 use Rattle.link.proofs.Tests.{false-true}
 
 -- An octet of D, with n data octets left and z zeros due: the octet, and position, data left and zeros due behind it. The last data
@@ -20,28 +19,28 @@ use Rattle.link.proofs.Tests.{false-true}
 pub data Advance (zxe : Bool) (d : List ℕ) (pos n z : ℕ) : ℕ → ℕ → ℕ → ℕ → Type 0 where
   last : n ≡ 1 → Advance zxe d pos n z (getD d pos 0) (pos + (1 + z)) 0 0
   more : 0 < n → (n ≡ 1 → ⊥) → Advance zxe d pos n z (getD d pos 0) (pos + 1) (n - 1) z
-  covers : n ≡ 0 → choice zxe (drop pos d) .octets ≡ 0
+  covers : n ≡ 0 → choice zxe (drop pos d) .nonzeros ≡ 0
       → Advance zxe d pos n z (choice zxe (drop pos d) .code) (pos + choice zxe (drop pos d) .zeros) n z
-  opens : n ≡ 0 → (choice zxe (drop pos d) .octets ≡ 0 → ⊥)
-      → Advance zxe d pos n z (choice zxe (drop pos d) .code) pos (choice zxe (drop pos d) .octets) (choice zxe (drop pos d) .zeros)
+  opens : n ≡ 0 → (choice zxe (drop pos d) .nonzeros ≡ 0 → ⊥)
+      → Advance zxe d pos n z (choice zxe (drop pos d) .code) pos (choice zxe (drop pos d) .nonzeros) (choice zxe (drop pos d) .zeros)
 
 -- A closing flag; a flag that breaks off; 02 before one; an octet of D.
 pub data Way (g : Agreed) (l : Lane) (s : Sender) (d : List ℕ) : Step → Type 0 where
-  ends : queue l s .length < queue l s .position → Way g l s d (record { out = closes l; state = onLine neither (inLane l empty s) })
-  cuts : queue l s .position ≤ queue l s .length → l ≡ low → g .pre ≡ true → 0 < s .high .length → 0 < s .left
-      → Way g l s d (record { out = breaks; state = onLine neither (marks true (s .cut) (block 0 0 s)) })
-  warns : queue l s .position ≤ queue l s .length → l ≡ low → g .pre ≡ true → 0 < s .high .length → s .left ≡ 0
-      → Way g l s d (record { out = sends low 0x02; state = marks (s .suspended) true s })
-  goes : (x pos n z : ℕ) → queue l s .position ≤ queue l s .length → Advance (g .zxe) d (queue l s .position) (s .left) (s .zeros) x pos n z
-      → Way g l s d (record { out = sends l (toLine x); state = block n z (inLane l (record { length = queue l s .length; position = pos }) s) })
+  ends : laneState l s .length < laneState l s .position → Way g l s d (record { out = closes l; state = withLine noLane (withLane l emptyLane s) })
+  cuts : laneState l s .position ≤ laneState l s .length → l ≡ low → g .pre ≡ true → 0 < s .high .length → 0 < s .left
+      → Way g l s d (record { out = breaksOff; state = withLine noLane (withMarks true (s .cut) (withBlock 0 0 s)) })
+  warns : laneState l s .position ≤ laneState l s .length → l ≡ low → g .pre ≡ true → 0 < s .high .length → s .left ≡ 0
+      → Way g l s d (record { out = sends low 0x02; state = withMarks (s .suspended) true s })
+  goes : (x pos n z : ℕ) → laneState l s .position ≤ laneState l s .length → Advance (g .zxe) d (laneState l s .position) (s .left) (s .zeros) x pos n z
+      → Way g l s d (record { out = sends l (toLine x); state = withBlock n z (withLane l (record { length = laneState l s .length; position = pos }) s) })
 
 is-low : (l : Lane) → isLow l ≡ true → l ≡ low
 is-low low e = refl
 is-low high e = false-true e
 
 module _ (g : Agreed) (s : Sender) (d : List ℕ) where
-  way-data : (l : Lane) → queue l s .position ≤ queue l s .length → 0 < s .left → Way g l s d (sendData l s d)
-  unfolding sendData
+  way-data : (l : Lane) → laneState l s .position ≤ laneState l s .length → 0 < s .left → Way g l s d (step5Data l s d)
+  unfolding step5Data
   way-data low h f =
       branch (λ t. Way g low s d (record { out = sends low (toLine (getD d (s .low .position) 0)); state = t })) (eqb (s .left) 1)
       (λ e. goes _ _ _ _ h (last (eqb-true (s .left) 1 e)))
@@ -51,24 +50,24 @@ module _ (g : Agreed) (s : Sender) (d : List ℕ) where
       (λ e. goes _ _ _ _ h (last (eqb-true (s .left) 1 e)))
       (λ e. goes _ _ _ _ h (more f (eqb-false (s .left) 1 e)))
 
-  way-code : (l : Lane) → queue l s .position ≤ queue l s .length → s .left ≡ 0
-      → Way g l s d (sendCode l s (choice (g .zxe) (drop (queue l s .position) d)))
-  unfolding sendCode
+  way-code : (l : Lane) → laneState l s .position ≤ laneState l s .length → s .left ≡ 0
+      → Way g l s d (step6Code l s (choice (g .zxe) (drop (laneState l s .position) d)))
+  unfolding step6Code
   way-code low h f =
       let c = choice (g .zxe) (drop (s .low .position) d) in
-      branch (λ t. Way g low s d (record { out = sends low (toLine (c .code)); state = t })) (eqb (c .octets) 0)
-      (λ e. goes _ _ _ _ h (covers f (eqb-true (c .octets) 0 e)))
-      (λ e. goes _ _ _ _ h (opens f (eqb-false (c .octets) 0 e)))
+      branch (λ t. Way g low s d (record { out = sends low (toLine (c .code)); state = t })) (eqb (c .nonzeros) 0)
+      (λ e. goes _ _ _ _ h (covers f (eqb-true (c .nonzeros) 0 e)))
+      (λ e. goes _ _ _ _ h (opens f (eqb-false (c .nonzeros) 0 e)))
   way-code high h f =
       let c = choice (g .zxe) (drop (s .high .position) d) in
-      branch (λ t. Way g high s d (record { out = sends high (toLine (c .code)); state = t })) (eqb (c .octets) 0)
-      (λ e. goes _ _ _ _ h (covers f (eqb-true (c .octets) 0 e)))
-      (λ e. goes _ _ _ _ h (opens f (eqb-false (c .octets) 0 e)))
+      branch (λ t. Way g high s d (record { out = sends high (toLine (c .code)); state = t })) (eqb (c .nonzeros) 0)
+      (λ e. goes _ _ _ _ h (covers f (eqb-true (c .nonzeros) 0 e)))
+      (λ e. goes _ _ _ _ h (opens f (eqb-false (c .nonzeros) 0 e)))
 
-  pub way : (l : Lane) → Way g l s d (onward g l s d)
-  unfolding onward breakOff
+  pub way : (l : Lane) → Way g l s d (steps3To6 g l s d)
+  unfolding steps3To6 step4BreakOff
   way l =
-      let q = queue l s in
+      let q = laneState l s in
       branch (Way g l s d) (ltb (q .length) (q .position)) (λ e. ends (ltb-true (q .length) (q .position) e))
       (λ e.
       let short : q .position ≤ q .length = ltb-false (q .length) (q .position) e in
@@ -86,37 +85,37 @@ module _ (g : Agreed) (s : Sender) (d : List ℕ) where
 -- ---- the first step that applies
 
 -- a sender by its parts
-abbrev pub sender : Queue → Queue → ℕ → ℕ → OnLine → Bool → Bool → ℕ → Sender
+abbrev pub sender : LaneState → LaneState → ℕ → ℕ → OnLine → Bool → Bool → ℕ → Sender
 sender ql qh n z o suspended cut t =
     record { low = ql; high = qh; left = n; zeros = z; on = o; suspended = suspended; cut = cut; settings = t }
 
-module _ (g : Agreed) (ql qh : Queue) (n z t : ℕ) (al ah : List ℕ) where
+module _ (g : Agreed) (ql qh : LaneState) (n z t : ℕ) (al ah : List ℕ) where
   -- By the lane on the line and the marks *suspended* and *cut due*: the cut; nothing; D1; a lane begins; a lane goes on.
   pub data Turn : OnLine → Bool → Bool → Step → Type 0 where
-    cut·due : {o : OnLine} {u : Bool} → Turn o u true (cutOff (sender ql qh n z o u true t))
-    idles : {o : OnLine} {u : Bool} → Turn o u false (record { out = nothing; state = sender ql qh n z o u false t })
-    takes·up : 0 < ql .length → Turn neither true false (record { out = sends low 0xD1; state = sender ql qh n z (sending low) false false t })
-    begins·high : {u : Bool} {st : Step} → 0 < qh .length → Way g high (sender ql qh n z (sending high) u false t) (dataOf qh ah) st
-        → Turn neither u false st
-    begins·low : {st : Step} → 0 < ql .length → Way g low (sender ql qh n z (sending low) false false t) (dataOf ql al) st
-        → Turn neither false false st
-    high·on : {u : Bool} {st : Step} → Way g high (sender ql qh n z (sending high) u false t) (dataOf qh ah) st → Turn (sending high) u false st
-    low·on : {u : Bool} {st : Step} → Way g low (sender ql qh n z (sending low) u false t) (dataOf ql al) st → Turn (sending low) u false st
+    cut·due : {o : OnLine} {u : Bool} → Turn o u true (step1CutDue (sender ql qh n z o u true t))
+    idles : {o : OnLine} {u : Bool} → Turn o u false (record { out = sendsNothing; state = sender ql qh n z o u false t })
+    resumes·low : 0 < ql .length → Turn noLane true false (record { out = sends low 0xD1; state = sender ql qh n z (sending low) false false t })
+    begins·high : {u : Bool} {st : Step} → 0 < qh .length → Way g high (sender ql qh n z (sending high) u false t) (laneD qh ah) st
+        → Turn noLane u false st
+    begins·low : {st : Step} → 0 < ql .length → Way g low (sender ql qh n z (sending low) false false t) (laneD ql al) st
+        → Turn noLane false false st
+    high·on : {u : Bool} {st : Step} → Way g high (sender ql qh n z (sending high) u false t) (laneD qh ah) st → Turn (sending high) u false st
+    low·on : {u : Bool} {st : Step} → Way g low (sender ql qh n z (sending low) u false t) (laneD ql al) st → Turn (sending low) u false st
 
   low-turn : (u : Bool) → 0 < ql .length
-      → Turn neither u false
+      → Turn noLane u false
       (cond u (record { out = sends low 0xD1; state = sender ql qh n z (sending low) false false t })
-      (onward g low (sender ql qh n z (sending low) u false t) (dataOf ql al)))
-  low-turn true h = takes·up h
-  low-turn false h = begins·low h (way g (sender ql qh n z (sending low) false false t) (dataOf ql al) low)
+      (steps3To6 g low (sender ql qh n z (sending low) u false t) (laneD ql al)))
+  low-turn true h = resumes·low h
+  low-turn false h = begins·low h (way g (sender ql qh n z (sending low) false false t) (laneD ql al) low)
 
-  pub turn : (o : OnLine) (u c : Bool) → Turn o u c (steps g (record { state = sender ql qh n z o u c t; low = al; high = ah }) c o)
-  unfolding steps takeLine
+  pub turn : (o : OnLine) (u c : Bool) → Turn o u c (steps1To6 g (record { state = sender ql qh n z o u c t; low = al; high = ah }) c o)
+  unfolding steps1To6 step2NoLane
   turn o u true = cut·due
-  turn (sending high) u false = high·on (way g (sender ql qh n z (sending high) u false t) (dataOf qh ah) high)
-  turn (sending low) u false = low·on (way g (sender ql qh n z (sending low) u false t) (dataOf ql al) low)
-  turn neither u false =
-      branch (Turn neither u false) (loaded qh)
-      (λ e. begins·high (ltb-true 0 (qh .length) e) (way g (sender ql qh n z (sending high) u false t) (dataOf qh ah) high))
-      (λ _. branch (Turn neither u false) (not (loaded ql)) (λ _. idles)
+  turn (sending high) u false = high·on (way g (sender ql qh n z (sending high) u false t) (laneD qh ah) high)
+  turn (sending low) u false = low·on (way g (sender ql qh n z (sending low) u false t) (laneD ql al) low)
+  turn noLane u false =
+      branch (Turn noLane u false) (loaded qh)
+      (λ e. begins·high (ltb-true 0 (qh .length) e) (way g (sender ql qh n z (sending high) u false t) (laneD qh ah) high))
+      (λ _. branch (Turn noLane u false) (not (loaded ql)) (λ _. idles)
       (λ f. low-turn u (ltb-true 0 (ql .length) (not-false (loaded ql) f))))

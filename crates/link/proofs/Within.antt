@@ -1,6 +1,5 @@
 -- The numbers of a report: the length of a packet is within the limit, and within its area as the call left it; a count of held octets and
 -- the number of a refusal are small.
--- Assumes nothing.
 use mathlib.Core.Bool.{not, _||_}
 use mathlib.Core.List.{List}
 use mathlib.Core.Path.{_≡_, refl}
@@ -14,13 +13,13 @@ use Rattle.cobs.specs.CodeBlocks.{flag}
 use Rattle.cobs.proofs.Tests.{branch}
 use Rattle.link.specs.Agreed.{Agreed, agreed, leastFrame, mostDecoded}
 use Rattle.link.specs.Answers.{Answer, done, octet, idle, quiet, packet, held, refused}
-use Rattle.link.specs.Receiver.{Receiving, Receive, Ended, isNone, isD0, inBounds, whole, close, atFlag, areaOf, work, flagged, receive}
+use Rattle.link.specs.Receiver.{ReceiverEnd, Receive, Ended, isNoBlock, isD0, inBounds, step5WithoutPhantom, step5Flag, atFlag, areaOf, work, flagged, receive}
 use Rattle.link.proofs.Tests.{or-left, or-right}
 use Rattle.link.proofs.ReceiverBounds.{Bounds, bounds}
 
 -- A packet's length is within the limit, and within the area that is named. No more octets are held than a receiver decodes. 14 is the last
 -- refusal.
-abbrev pub Within : Agreed → Answer → Receiving → Type 0
+abbrev pub Within : Agreed → Answer → ReceiverEnd → Type 0
 Within g done e = Unit {0}
 Within g (octet x) e = Unit {0}
 Within g idle e = Unit {0}
@@ -30,31 +29,31 @@ Within g (held n replaced) e = n ≤ mostDecoded g
 Within g (refused n) e = n ≤ 14
 
 -- at a flag
-module _ (g : Agreed) (e : Receiving) (long : mostDecoded g ≤ length (work e .area)) (b : Bounds g (e .state)) where
+module _ (g : Agreed) (e : ReceiverEnd) (long : mostDecoded g ≤ length (work e .area)) (b : Bounds g (e .state)) where
   abbrev Ends : Ended → Type 0
   Ends t = Within g (t .report) (flagged e t .after)
 
-  whole-within : (n : ℕ) → n + 1 ≤ mostDecoded g → Ends (whole g (e .state) (work e .area) n)
-  unfolding whole
+  whole-within : (n : ℕ) → n + 1 ≤ mostDecoded g → Ends (step5WithoutPhantom g (e .state) (work e .area) n)
+  unfolding step5WithoutPhantom
   whole-within n h =
       branch Ends (ltb n (leastFrame g)) (λ _. omega arith)
       (λ _. branch Ends (good (g .check) (take n (work e .area))) (λ _. (omega arith, omega arith)) (λ _. omega arith))
 
   flag-within : Ends (atFlag g (e .state) (work e .area))
-  unfolding atFlag close
+  unfolding atFlag step5Flag
   flag-within =
       let r = e .state in
       let deep = b .deep in
       branch Ends (r .framed)
       (λ _. branch Ends (not (eqb (r .refusal) 0))
       (λ k. omega (arith, b .refusals (eqb-false (r .refusal) 0 (not-true (eqb (r .refusal) 0) k)) .1))
-      (λ _. branch Ends (isNone (r .last)) (λ _. omega arith)
+      (λ _. branch Ends (isNoBlock (r .last)) (λ _. omega arith)
       (λ _. branch Ends (ltb 0 (r .left)) (λ _. branch Ends (g .pre) (λ _. deep) (λ _. omega arith))
       (λ _. branch Ends (isD0 (r .last)) (λ _. omega arith) (λ _. whole-within (r .decoded - 1) (omega arith))))))
       (λ _. tt)
 
 -- the call
-pub within : (e : Receiving) (x : ℕ) → Within (agreed (e .state .settings)) (receive e x .report) (receive e x .after)
+pub within : (e : ReceiverEnd) (x : ℕ) → Within (agreed (e .state .settings)) (receive e x .report) (receive e x .after)
 unfolding receive
 within e x =
     let g = agreed (e .state .settings) in
@@ -66,7 +65,7 @@ within e x =
     (λ s. branch P (not (inBounds g (e .state))) (λ _. omega arith)
     (λ i. branch P (eqb x flag)
     (λ _. flag-within g e
-    (branch (λ (l : List ℕ). most ≤ length l) (e .state .second) (λ _. ltb-false (length (e .second)) most (or-right a b s)) (λ _. ltb-false (length (e .first)) most (or-left a b s)))
+    (branch (λ (l : List ℕ). most ≤ length l) (e .state .turn) (λ _. ltb-false (length (e .second)) most (or-right a b s)) (λ _. ltb-false (length (e .first)) most (or-left a b s)))
     (bounds g (e .state) (not-false (inBounds g (e .state)) i)))
     (λ _. tt)))
 

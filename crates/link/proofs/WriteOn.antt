@@ -1,5 +1,4 @@
 -- A stretch of data octets: while a lane on the line has more than one left in its block, and nothing breaks it off, each call sends the next.
--- Assumes nothing.
 use mathlib.Core.Path.{_≡_, refl, sym, subst, ap, _∙_}
 use mathlib.Core.Bool.{true, false, not, _||_}
 use mathlib.Core.List.{List}
@@ -11,34 +10,32 @@ use lib.ListN.{length, getD}
 use Rattle.cobs.specs.CodeBlocks.{flag, toLine}
 use Rattle.cobs.proofs.Exchange.{no-flag}
 use Rattle.cobs.proofs.Tests.{branch}
-use Rattle.link.specs.Agreed.{agreed}
+use Rattle.link.specs.Agreed.{agreed, largestFrame, mostDecoded}
 use Rattle.link.specs.Answers.{octet}
-use Rattle.link.specs.Sender.{Lane, low, high, sending, Sender, Sending, Step, Next, area, queue, inBounds, block, move, sendData, answer, next, seen}
+use Rattle.link.specs.Sender.{Lane, low, high, sending, Sender, SenderEnd, Step, Next, laneArea, laneState, inBounds, withBlock, positionUp, step5Data, outAnswer, next, seen}
+use Rattle.link.specs.SenderParts.{SenderReady}
 use Rattle.link.proofs.D as D
+use Rattle.link.proofs.Tests.{both-long, none-short}
 use Rattle.link.proofs.InBounds.{keep-bounds}
-use Rattle.link.proofs.sender.Bounds.{long, not-short, low-on, high-on, low-sends, high-sends}
+use Rattle.link.proofs.sender.Bounds.{low-on, high-on, low-sends, high-sends}
 
 -- ---- a call that is answered by an octet was not refused
 
--- the areas are long enough, and the state is in bounds
-pub record Lent (e : Sending) : Type 0 where
-  pub low : 2050 ≤ length (e .low)
-  pub high : 2050 ≤ length (e .high)
-  pub bounds : inBounds (agreed (e .state .settings)) (e .state) ≡ true
-
-lent-before : (e : Sending) (x : ℕ) → octet x ≡ answer (next e .out) → Lent e
-unfolding next agreed
-lent-before e x =
+ready-before : (e : SenderEnd) (x : ℕ) → octet x ≡ outAnswer (next e .out) → SenderReady e
+unfolding next
+ready-before e x =
     let s = e .state in
-    let P : Step → Type 0 = λ st. octet x ≡ answer (st .out) → Lent e in
-    branch P (ltb (length (e .low)) 2050 || ltb (length (e .high)) 2050) (λ _ q. absurd (let z : _≡_ {A = ℕ} 0 1 = cc in omega arith))
+    let m = largestFrame (agreed (s .settings)) in
+    let P : Step → Type 0 = λ st. octet x ≡ outAnswer (st .out) → SenderReady e in
+    branch P (ltb (length (e .low)) m || ltb (length (e .high)) m) (λ _ q. absurd (let z : _≡_ {A = ℕ} 0 1 = cc in omega arith))
     (λ k. branch P (not (inBounds (agreed (s .settings)) s)) (λ _ q. absurd (let z : _≡_ {A = ℕ} 0 1 = cc in omega arith))
-    (λ i q. record { low = long (length (e .low)) (length (e .high)) k .0; high = long (length (e .low)) (length (e .high)) k .1; bounds = not-false (inBounds (agreed (s .settings)) s) i }))
+    (λ i q. record { low = both-long m (length (e .low)) (length (e .high)) k .0; high = both-long m (length (e .low)) (length (e .high)) k .1; bounds = not-false (inBounds (agreed (s .settings)) s) i }))
 
 -- and the state after it is in bounds again
-pub octet-lent : (e : Sending) (x : ℕ) (t : Sender) → record { answer = octet x; state = t } ≡ seen (next e) → Lent (record { state = t; low = e .low; high = e .high })
-octet-lent e x t p =
-    let b = lent-before e x (ap (λ (h : Next). h .answer) p) in
+pub octet-ready : (e : SenderEnd) (x : ℕ) (t : Sender) → record { answer = octet x; state = t } ≡ seen (next e) → SenderReady (record { state = t; low = e .low; high = e .high })
+unfolding agreed
+octet-ready e x t p =
+    let b = ready-before e x (ap (λ (h : Next). h .answer) p) in
     record {
       low = b .low;
       high = b .high;
@@ -49,48 +46,48 @@ octet-lent e x t p =
 
 -- n octets of a lane's block are sent, and more are left
 abbrev pub sent : ℕ → Lane → Sender → Sender
-sent n l s = block (s .left - n) (s .zeros) (move n l s)
+sent n l s = withBlock (s .left - n) (s .zeros) (positionUp n l s)
 
 -- the lane is on the line and has more than n data octets left; a low one is alone
-pub record Stretch (l : Lane) (n : ℕ) (e : Sending) : Type 0 where
-  pub lent : Lent e
+pub record Stretch (l : Lane) (n : ℕ) (e : SenderEnd) : Type 0 where
+  pub ready : SenderReady e
   pub on : e .state .on ≡ sending l
   pub more : n ≤ e .state .left - 1
   pub alone : l ≡ low → e .state .high .length ≡ 0
 
-module _ (n : ℕ) (e : Sending) where
+module _ (n : ℕ) (e : SenderEnd) where
   abbrev s : Sender
   s = e .state
 
-  data-sent : (l : Lane) (d a : List ℕ) → 1 < s .left → getD d (queue l s .position) 0 ≡ getD a (queue l s .position) 0
-      → seen (sendData l s d) ≡ record { answer = octet (toLine (getD a (queue l s .position) 0)); state = sent 1 l s }
-  unfolding sendData
+  data-sent : (l : Lane) (d a : List ℕ) → 1 < s .left → getD d (laneState l s .position) 0 ≡ getD a (laneState l s .position) 0
+      → seen (step5Data l s d) ≡ record { answer = octet (toLine (getD a (laneState l s .position) 0)); state = sent 1 l s }
+  unfolding step5Data
   data-sent l d a m p = rw (p, ne-eqb (s .left) 1 (λ k. omega (arith, k)))
 
   pub first : (l : Lane) → Stretch l (suc n) e
-      → record { answer = octet (toLine (getD (area l e) (queue l s .position) 0)); state = sent 1 l s } ≡ seen (next e)
+      → record { answer = octet (toLine (getD (laneArea l e) (laneState l s .position) 0)); state = sent 1 l s } ≡ seen (next e)
   first low h =
-      let b = h .lent in
+      let b = h .ready in
       let r = low-on s (b .bounds) (e .low) (b .low) (h .on) in
-      let short = not-short _ _ (b .low, b .high) in
+      let short = none-short _ _ _ (b .low, b .high) in
       sym (ap seen (low-sends e short (b .bounds) (omega (arith, h .more)) (h .on) (h .alone refl))
-      ∙ data-sent low _ (e .low) (omega (arith, h .more)) (D.before (s .low .length) (e .low) (s .low .position) (omega (arith, h .more, r .inside))))
+      ∙ data-sent low _ (e .low) (omega (arith, h .more)) (D.before (s .low .length) (e .low) (s .low .position) (omega (arith, h .more, r .inD))))
   first high h =
-      let b = h .lent in
+      let b = h .ready in
       let r = high-on s (b .bounds) (e .high) (b .high) (h .on) in
-      let short = not-short _ _ (b .low, b .high) in
+      let short = none-short _ _ _ (b .low, b .high) in
       sym (ap seen (high-sends e short (b .bounds) (omega (arith, h .more)) (h .on))
-      ∙ data-sent high _ (e .high) (omega (arith, h .more)) (D.before (s .high .length) (e .high) (s .high .position) (omega (arith, h .more, r .inside))))
+      ∙ data-sent high _ (e .high) (omega (arith, h .more)) (D.before (s .high .length) (e .high) (s .high .position) (omega (arith, h .more, r .inD))))
 
   -- the place is inside the area
-  pub inside : (l : Lane) → Stretch l (suc n) e → queue l s .position < length (area l e)
-  inside low h = let r = low-on s (h .lent .bounds) (e .low) (h .lent .low) (h .on) in omega (arith, h .more, r .inside, r .short, r .long)
-  inside high h = let r = high-on s (h .lent .bounds) (e .high) (h .lent .high) (h .on) in omega (arith, h .more, r .inside, r .short, r .long)
+  pub inside : (l : Lane) → Stretch l (suc n) e → laneState l s .position < length (laneArea l e)
+  inside low h = let r = low-on s (h .ready .bounds) (e .low) (h .ready .low) (h .on) in omega (arith, h .more, r .inD, r .short, r .long)
+  inside high h = let r = high-on s (h .ready .bounds) (e .high) (h .ready .high) (h .on) in omega (arith, h .more, r .inD, r .short, r .long)
 
   pub rest : (l : Lane) → Stretch l (suc n) e → Stretch l n (record { state = sent 1 l s; low = e .low; high = e .high })
   rest l h =
       record {
-        lent = octet-lent e _ _ (first l h);
+        ready = octet-ready e _ _ (first l h);
         on = on-line l;
         more = omega (arith, h .more);
         alone = alone l (h .alone);
@@ -109,6 +106,6 @@ pub plain : (x : ℕ) → eqb (toLine x) flag ≡ false
 plain x = ne-eqb (toLine x) flag (no-flag x)
 
 -- a block that is inside its lane's area
-pub block-inside : (l : Lane) (e : Sending) → Lent e → e .state .on ≡ sending l → queue l (e .state) .position + e .state .left ≤ 2051
-block-inside low e b o = let r = low-on (e .state) (b .bounds) (e .low) (b .low) o in omega (arith, r .inside, r .short)
-block-inside high e b o = let r = high-on (e .state) (b .bounds) (e .high) (b .high) o in omega (arith, r .inside, r .short)
+pub block-in-area : (l : Lane) (e : SenderEnd) → SenderReady e → e .state .on ≡ sending l → laneState l (e .state) .position + e .state .left ≤ mostDecoded (agreed (e .state .settings))
+block-in-area low e b o = let r = low-on (e .state) (b .bounds) (e .low) (b .low) o in omega (arith, r .inD, r .short)
+block-in-area high e b o = let r = high-on (e .state) (b .bounds) (e .high) (b .high) o in omega (arith, r .inD, r .short)

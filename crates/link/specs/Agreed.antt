@@ -1,5 +1,4 @@
 -- What both ends agreed on (docs/READING.md, "What was agreed"; document 01, "Code blocks"), and the bounds that follow from it.
--- Assumes nothing.
 use mathlib.Core.Bool.{Bool}
 use Prim.Native.Nat.{ℕ, _+_, _/_, _%_}
 use lib.Dec.{eqb}
@@ -22,10 +21,10 @@ leastPacket = 2
 
 -- the fewest and the most octets of a frame: 4 and 2,050 in the base
 abbrev pub leastFrame : Agreed → ℕ
-leastFrame g = leastPacket + g .check .octets
+leastFrame g = leastPacket + g .check .fcsLength
 
 abbrev pub largestFrame : Agreed → ℕ
-largestFrame g = g .limit + g .check .octets
+largestFrame g = g .limit + g .check .fcsLength
 
 -- the most octets that a receiver decodes, a frame and its phantom: 2,051 in the base
 abbrev pub mostDecoded : Agreed → ℕ

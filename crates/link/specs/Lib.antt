@@ -1,9 +1,11 @@
--- What a reader must believe, in document 01's order: what was agreed, the answers, the sender, the receiver, runs of both, the demands, the marked cases.
+-- What a reader must believe, in document 01's order: what was agreed, the answers, the sender, the receiver, runs of both, the demands, the
+-- marked cases. SenderParts and ReceiverParts are for private functions only.
 pub mod Agreed
 pub mod Answers
 pub mod Sender
 pub mod SenderParts
 pub mod Receiver
+pub mod ReceiverParts
 pub mod Runs
 pub mod Demands
 pub mod Marked

@@ -1,67 +1,54 @@
 -- The marked cases (document 01, "Marked frames and false friends"): one table, and what each case says of the steps.
--- Assumes nothing.
 use mathlib.Core.Path.{_≡_}
-use mathlib.Core.Bool.{Bool, true, false, not}
+use mathlib.Core.Bool.{Bool, true, false}
 use mathlib.Core.List.{List, [], _∷_, _++_, map, List·Memᴰ}
 use mathlib.Core.Option.{none, some}
 use Prim.Native.Nat.{ℕ, _+_}
 use lib.ListN.{length, replicate}
 use Rattle.cobs.specs.CodeBlocks.{flag, choice}
-use Rattle.link.specs.Answers.{Answer, octet, packet, held, refused, isQuiet}
+use Rattle.link.specs.Answers.{Answer, octet, packet, held, refused}
 use Rattle.link.specs.Sender.{Lane, low, high}
 use Rattle.link.specs.Receiver.{receive}
-use Rattle.link.specs.Runs.{Call, loading, nextOctet, opened, run, afterNext, written, octets, receives, received, packetIn, isOld, collect}
-use Rattle.link.specs.Demands.{fresh, Told, told}
+use Rattle.link.specs.Runs.{SenderCall, loading, nextOctet, freshStation, run, afterNext, written, writtenOctets, receives, received, notQuiet, packetIn, leftAside, collect}
+use Rattle.link.specs.Demands.{freshReceiver, ReportAndPacket, reportAndPacket}
 
 -- sent: with these settings this packet is sent so, from either lane, and then the sender is idle
 -- reported: with these settings these octets are reported so, Quiet left out
--- tenth: with settings 03, whether the frame of these octets is refused 10
+-- refusedTen: with settings 03, whether the frame of these octets is refused 10
 -- chosen: with ZXE, the code at this rest of D
 pub data Case : Type 0 where
   sent : ℕ → List ℕ → List ℕ → Case
-  reported : ℕ → List ℕ → List Told → Case
-  tenth : List ℕ → Bool → Case
+  reported : ℕ → List ℕ → List ReportAndPacket → Case
+  refusedTen : List ℕ → Bool → Case
   chosen : List ℕ → ℕ → Case
 
--- areas of the smallest lengths
-abbrev pub low·area : List ℕ
-low·area = replicate 2050 0
+-- areas of the smallest lengths, for either lane and for either turn
+abbrev pub senderArea : List ℕ
+senderArea = replicate 2050 0
 
-abbrev pub first·area : List ℕ
-first·area = replicate 2051 0
-
-abbrev pub loud : Answer → Bool
-loud a = not (isQuiet a)
-
-abbrev pub unless : {A : Type 0} → Bool → A → List A → List A
-unless true x xs = x ∷ xs
-unless false x xs = xs
-
--- the reports but Quiet
-abbrev pub reports : List Told → List Told
-reports [] = []
-reports (t ∷ ts) = unless (loud (t .report)) t (reports ts)
+abbrev pub receiverArea : List ℕ
+receiverArea = replicate 2051 0
 
 -- a frame is refused 10, or is not
-abbrev pub IsTenth : Bool → Answer → Type 0
-IsTenth true a = a ≡ refused 10
-IsTenth false a = a ≡ refused 10 → ⊥
+abbrev pub IsRefusedTen : Bool → Answer → Type 0
+IsRefusedTen true a = a ≡ refused 10
+IsRefusedTen false a = a ≡ refused 10 → ⊥
 
 -- what a case says
-abbrev pub Holds : Case → Type 0
-Holds (sent settings p line) =
-    (l : Lane) → octets (written (opened settings low·area low·area) (loading l p ∷ replicate (length line + 1) nextOctet)) ≡ line
-Holds (reported settings line ts) = reports (map told (receives (fresh settings first·area first·area) line)) ≡ ts
-Holds (tenth line ten) = IsTenth ten (receive (received (fresh 0x03 first·area first·area) line) flag .report)
-Holds (chosen rest code) = choice true rest .code ≡ code
+abbrev pub Says : Case → Type 0
+Says (sent settings p line) =
+    (l : Lane) → writtenOctets (written (freshStation settings senderArea senderArea) (loading l p ∷ replicate (length line + 1) nextOctet)) ≡ line
+Says (reported settings line ts) = map reportAndPacket (notQuiet (receives (freshReceiver settings receiverArea receiverArea) line)) ≡ ts
+Says (refusedTen line ten) = IsRefusedTen ten (receive (received (freshReceiver 0x03 receiverArea receiverArea) line) flag .report)
+Says (chosen rest code) = choice true rest .code ≡ code
 
-abbrev packetOf : Bool → List ℕ → Told
-packetOf second p = record { report = packet second (length p); packet = some p }
+abbrev packetOf : Bool → List ℕ → ReportAndPacket
+packetOf inSecond p = record { report = packet inSecond (length p); packet = some p }
 
-abbrev heldOf : ℕ → Bool → Told
+abbrev heldOf : ℕ → Bool → ReportAndPacket
 heldOf n replaced = record { report = held n replaced; packet = none }
 
-abbrev refusedBy : ℕ → Told
+abbrev refusedBy : ℕ → ReportAndPacket
 refusedBy n = record { report = refused n; packet = none }
 
 abbrev digits : List ℕ
@@ -84,15 +71,15 @@ cases =
     ∷ reported 0x03 capture (heldOf 3 false ∷ packetOf true digits ∷ packetOf false digits ∷ refusedBy 13 ∷ [])
     ∷ reported 0x03 (0x7E ∷ 0x7E ∷ []) []
     ∷ reported 0x03 (0x05 ∷ 0x31 ∷ 0x7E ∷ 0x05 ∷ 0x32 ∷ 0x7E ∷ []) (heldOf 1 false ∷ heldOf 1 true ∷ [])
-    ∷ tenth (replicate 136 0xDF ++ (0xDB ∷ [])) false
-    ∷ tenth (replicate 136 0xDF ++ (0xDC ∷ [])) true
+    ∷ refusedTen (replicate 136 0xDF ++ (0xDB ∷ [])) false
+    ∷ refusedTen (replicate 136 0xDF ++ (0xDC ∷ [])) true
     ∷ chosen (replicate 206 0x31 ++ (0x00 ∷ [])) 0xCF
     ∷ chosen (replicate 207 0x31 ++ (0x00 ∷ [])) 0xD0
     ∷ []
 
 -- every case of the table holds
-abbrev pub Marked : Type 0
-Marked = (c : Case) → List·Memᴰ c cases → Holds c
+abbrev pub MarkedCases : Type 0
+MarkedCases = (c : Case) → List·Memᴰ c cases → Says c
 
 -- ---- demand 3 at work
 
@@ -101,16 +88,16 @@ Marked = (c : Case) → List·Memᴰ c cases → Holds c
 abbrev noise : List ℕ
 noise = 0x05 ∷ 0x58 ∷ 0x7E ∷ 0x06 ∷ 0x59 ∷ []
 
-abbrev before : List Call
+abbrev before : List SenderCall
 before = loading low (0x31 ∷ 0x32 ∷ 0x33 ∷ []) ∷ nextOctet ∷ nextOctet ∷ loading high (0x41 ∷ 0x42 ∷ []) ∷ []
 
-abbrev after : List Call
+abbrev after : List SenderCall
 after = replicate 6 nextOctet ++ (loading high (0x43 ∷ 0x44 ∷ []) ∷ replicate 20 nextOctet)
 
 -- both high packets come through; the low one is left aside, though its last frame is written too
 abbrev pub AtWork : Type 0
 AtWork =
-    let w = afterNext true (run (opened 0x03 low·area low·area) before) in
-    let e = receive (received (fresh 0x03 first·area first·area) noise) flag .after in
+    let w = afterNext true (run (freshStation 0x03 senderArea senderArea) before) in
+    let e = receive (received (freshReceiver 0x03 receiverArea receiverArea) noise) flag .after in
     let es = written w after in
-    (collect packetIn es (receives e (octets es)) ≡ (0x41 ∷ 0x42 ∷ []) ∷ (0x43 ∷ 0x44 ∷ []) ∷ []) × (isOld (w .lanes .low) ≡ true)
+    (collect packetIn es (receives e (writtenOctets es)) ≡ (0x41 ∷ 0x42 ∷ []) ∷ (0x43 ∷ 0x44 ∷ []) ∷ []) × (leftAside (w .lanes .low) ≡ true)

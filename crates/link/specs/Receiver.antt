@@ -1,5 +1,4 @@
 -- The receiver's call, one for each octet (docs/READING.md and document 01, "Receiver"; the bounds: "Refusal table").
--- Assumes nothing.
 use mathlib.Core.Bool.{Bool, true, false, not, _&&_, _||_}
 use mathlib.Core.List.{List, [], _∷_, _++_}
 use Prim.Native.Nat.{ℕ, _+_, _-_}
@@ -9,116 +8,142 @@ use Rattle.fcs.specs.Notation.{if_then_else_}
 use Rattle.fcs.specs.CheckSequence.{good}
 use Rattle.cobs.specs.CodeBlocks.{flag, fromLine, meaning}
 use Rattle.cobs.specs.declared.Meaning.{Meaning}
-use Rattle.cobs.specs.declared.Meaning.the-variants.{Counts, NotAgreed, NoCode}
+use Rattle.cobs.specs.declared.Meaning.the-variants.{InTable, NotAgreed, NoCode}
 use Rattle.link.specs.Agreed.{Agreed, agreed, leastFrame, mostDecoded}
 use Rattle.link.specs.Answers.{Answer, quiet, packet, held, refused}
 pub use Rattle.link.specs.declared.receiver.Fragment.{Fragment}
-pub use Rattle.link.specs.declared.receiver.Fragment.the-variants.{Nothing as none, Octets as octets}
+pub use Rattle.link.specs.declared.receiver.Fragment.the-variants.{NothingHeld as nothingHeld, Holds as holds}
 pub use Rattle.link.specs.declared.receiver.LastBlock.{LastBlock}
-pub use Rattle.link.specs.declared.receiver.LastBlock.the-variants.{NoBlock as noBlock, Full as full, Other as other}
+pub use Rattle.link.specs.declared.receiver.LastBlock.the-variants.{NoBlock as noBlock, BlockD0 as blockD0, OtherBlock as otherBlock}
 pub use Rattle.link.specs.declared.receiver.Receiver.{Receiver}
 
 -- ---- the state
 
--- out of a frame all is as fresh but the settings, the turn of the areas and what is held
-abbrev pub outside : ℕ → Bool → Fragment → Receiver
-outside settings second fragment =
+-- Document 01's list, item by item in its order, and the field of `Receiver` (declared in src/receiver.rt) that is the item:
+--   work area                                               turn: false for the first area, true for the second
+--   decoded count                                           decoded
+--   held count, or none                                     held: `holds n`, or `nothingHeld`
+--   data left                                               left
+--   zeros due                                               zeros
+--   last block: none, D0, other                             last: `noBlock`, `blockD0`, `otherBlock`
+--   mark *in a frame*                                       framed
+--   mark *resumed*                                          resumed
+--   remembered refusal                                      refusal: its number, 0 for none
+--   settings octet ("Code blocks")                          settings
+
+-- Out of a frame all is as fresh but the settings, the turn of the areas and what is held.
+abbrev pub outOfFrame : ℕ → Bool → Fragment → Receiver
+outOfFrame settings turn fragment =
     record {
+      turn = turn;
       decoded = 0;
       held = fragment;
-      framed = false;
-      refusal = 0;
       left = 0;
       zeros = 0;
       last = noBlock;
+      framed = false;
       resumed = false;
-      second = second;
+      refusal = 0;
       settings = settings;
     }
 
--- an end is opened fresh: the first area works, and nothing is held
-abbrev pub opened : ℕ → Receiver
-opened settings = outside settings false none
+-- An end is opened fresh: the first area is the work area, and nothing is held.
+abbrev pub openedReceiver : ℕ → Receiver
+openedReceiver settings = outOfFrame settings false nothingHeld
 
--- The receiver and its work area. The steps of an octet that is no flag touch no other.
-pub record Working : Type 0 where
-  pub state : Receiver
-  pub area : List ℕ
+-- The state with some items changed. But for these four and `outOfFrame` no definition and no proof writes a whole state out.
 
--- the state with n data octets left and z zeros due; the same where a block begins
-abbrev pub due : ℕ → ℕ → Receiver → Receiver
-due n z r =
+-- the turn of the areas and what is held
+abbrev pub withHeld : Bool → Fragment → Receiver → Receiver
+withHeld turn fragment r =
     record {
+      turn = turn;
       decoded = r .decoded;
-      held = r .held;
-      framed = r .framed;
-      refusal = r .refusal;
-      left = n;
-      zeros = z;
-      last = r .last;
-      resumed = r .resumed;
-      second = r .second;
-      settings = r .settings;
-    }
-
-abbrev pub begin : LastBlock → ℕ → ℕ → Receiver → Receiver
-begin b n z r =
-    record {
-      decoded = r .decoded;
-      held = r .held;
-      framed = true;
-      refusal = r .refusal;
-      left = n;
-      zeros = z;
-      last = b;
-      resumed = r .resumed;
-      second = r .second;
-      settings = r .settings;
-    }
-
--- n octets more are decoded
-abbrev pub counted : ℕ → Receiver → Receiver
-counted n r =
-    record {
-      decoded = r .decoded + n;
-      held = r .held;
-      framed = r .framed;
-      refusal = r .refusal;
+      held = fragment;
       left = r .left;
       zeros = r .zeros;
       last = r .last;
+      framed = r .framed;
       resumed = r .resumed;
-      second = r .second;
+      refusal = r .refusal;
       settings = r .settings;
     }
 
--- ---- in bounds (the refusal table's last paragraph)
+-- decoded count
+abbrev pub withDecoded : ℕ → Receiver → Receiver
+withDecoded n r =
+    record {
+      turn = r .turn;
+      decoded = n;
+      held = r .held;
+      left = r .left;
+      zeros = r .zeros;
+      last = r .last;
+      framed = r .framed;
+      resumed = r .resumed;
+      refusal = r .refusal;
+      settings = r .settings;
+    }
 
-abbrev pub isNone : LastBlock → Bool
-isNone noBlock = true
-isNone full = false
-isNone other = false
+-- data left and zeros due
+abbrev pub withDue : ℕ → ℕ → Receiver → Receiver
+withDue n z r =
+    record {
+      turn = r .turn;
+      decoded = r .decoded;
+      held = r .held;
+      left = n;
+      zeros = z;
+      last = r .last;
+      framed = r .framed;
+      resumed = r .resumed;
+      refusal = r .refusal;
+      settings = r .settings;
+    }
+
+-- in a frame, with this last block, mark resumed and remembered refusal
+abbrev pub inFrame : LastBlock → Bool → ℕ → Receiver → Receiver
+inFrame last resumed refusal r =
+    record {
+      turn = r .turn;
+      decoded = r .decoded;
+      held = r .held;
+      left = r .left;
+      zeros = r .zeros;
+      last = last;
+      framed = true;
+      resumed = resumed;
+      refusal = refusal;
+      settings = r .settings;
+    }
+
+-- ---- in bounds ("Refusal table", last paragraph)
+
+abbrev pub isNoBlock : LastBlock → Bool
+isNoBlock noBlock = true
+isNoBlock blockD0 = false
+isNoBlock otherBlock = false
 
 abbrev pub isD0 : LastBlock → Bool
 isD0 noBlock = false
-isD0 full = true
-isD0 other = false
+isD0 blockD0 = true
+isD0 otherBlock = false
 
 abbrev pub heldOk : Agreed → Fragment → Bool
-heldOk g none = true
-heldOk g (octets n) = leb n (mostDecoded g)
+heldOk g nothingHeld = true
+heldOk g (holds n) = leb n (mostDecoded g)
 
--- not in a frame: as in a fresh receiver, whatever the turn, the settings and what is held
+-- outside a frame: as in a fresh receiver, whatever its work area, its settings and what it holds
 abbrev pub freshOk : Receiver → Bool
-freshOk r = eqb (r .decoded) 0 && eqb (r .left) 0 && eqb (r .zeros) 0 && isNone (r .last) && not (r .resumed) && eqb (r .refusal) 0
+freshOk r = eqb (r .decoded) 0 && eqb (r .left) 0 && eqb (r .zeros) 0 && isNoBlock (r .last) && not (r .resumed) && eqb (r .refusal) 0
 
 -- in a frame that is not refused: no block yet only behind D1; behind a block other than D0 data is to come or something was decoded
-abbrev pub blockOk : LastBlock → Receiver → Bool
-blockOk noBlock r = r .resumed
-blockOk full r = true
-blockOk other r = ltb 0 (r .left) || ltb 0 (r .decoded)
+abbrev pub lastBlockOk : LastBlock → Receiver → Bool
+lastBlockOk noBlock r = r .resumed
+lastBlockOk blockD0 r = true
+lastBlockOk otherBlock r = ltb 0 (r .left) || ltb 0 (r .decoded)
 
--- both counts, 207 data octets, 2 zeros; a refusal that is remembered is one of 5 to 10 (0: there is none)
+-- all of it, with 207 data octets and 2 zeros at the most, no count above 2,051 (in the base), and only a refusal from 5 to 10 remembered
 unfoldable pub inBounds : Agreed → Receiver → Bool
 inBounds g r =
     leb (r .decoded) (mostDecoded g)
@@ -126,183 +151,178 @@ inBounds g r =
     && leb (r .left) 207
     && leb (r .zeros) 2
     && (eqb (r .refusal) 0 || leb 5 (r .refusal) && leb (r .refusal) 10)
-    && (if r .framed then not (eqb (r .refusal) 0) || blockOk (r .last) r else freshOk r)
+    && (if r .framed then not (eqb (r .refusal) 0) || lastBlockOk (r .last) r else freshOk r)
 
--- ---- an octet that is no flag
+-- ---- an octet that is no flag (steps 1 to 4)
 
--- Step 4: a refusal is remembered, and the rest of the frame will be skipped. `resumed`: the frame is a resumed one.
-abbrev pub remember : ℕ → Bool → Receiver → Receiver
-remember n resumed r =
-    record {
-      decoded = r .decoded;
-      held = r .held;
-      framed = true;
-      refusal = n;
-      left = 0;
-      zeros = 0;
-      last = noBlock;
-      resumed = resumed;
-      second = r .second;
-      settings = r .settings;
-    }
+-- What a step uses stands before it, so that they come in the order 4, 3, 2, 1.
 
-abbrev pub refuse : ℕ → Working → Working
-refuse n w = record { state = remember n (w .state .resumed) (w .state); area = w .area }
+-- The receiver and its work area: the steps of an octet that is no flag touch no other area.
+pub record Working : Type 0 where
+  pub state : Receiver
+  pub area : List ℕ
+
+-- Step 4: a refusal is remembered, and the block is over; what still comes of the frame is skipped (`steps1To4`). `resumed`: whether the frame
+-- is a resumed one.
+abbrev pub step4Remember : ℕ → Bool → Receiver → Receiver
+step4Remember n resumed r = withDue 0 0 (inFrame noBlock resumed n r)
+
+-- what the steps say as "gives n"
+abbrev pub step4Refuse : ℕ → Working → Working
+step4Refuse n w = record { state = step4Remember n (w .state .resumed) (w .state); area = w .area }
 
 -- octets written into an area after its first n; everything else in it stays
 abbrev pub write : List ℕ → ℕ → List ℕ → List ℕ
 write area n xs = take n area ++ xs ++ drop (n + length xs) area
 
 -- octets are written after those already decoded
-abbrev pub wrote : List ℕ → Working → Working
-wrote xs w = record { state = counted (length xs) (w .state); area = write (w .area) (w .state .decoded) xs }
+abbrev pub step3Write : List ℕ → Working → Working
+step3Write xs w = record { state = withDecoded (w .state .decoded + length xs) (w .state); area = write (w .area) (w .state .decoded) xs }
 
--- Step 3: octets that would bring the decoded ones above 2,051 give 10 and aren't written.
-unfoldable pub decode : Agreed → List ℕ → Working → Working
-decode g xs w = if ltb (mostDecoded g) (w .state .decoded + length xs) then refuse 10 w else wrote xs w
+-- Step 3: octets are decoded, or, where they would be too many (above 2,051 in the base), refused 10 and not written.
+unfoldable pub step3Decode : Agreed → List ℕ → Working → Working
+step3Decode g xs w = if ltb (mostDecoded g) (w .state .decoded + length xs) then step4Refuse 10 w else step3Write xs w
 
--- a data octet; with the last of its block, the block's zeros together
-unfoldable pub dataOctet : Agreed → Working → ℕ → Working
-dataOctet g w x =
+-- Step 3 of a data octet; with the last of its block, the block's zeros together
+unfoldable pub step3Data : Agreed → Working → ℕ → Working
+step3Data g w x =
     let r = w .state in
-    if ltb (mostDecoded g) (r .decoded + 1) then refuse 10 w
-    else if eqb (r .left) 1 then decode g (replicate (r .zeros) 0) (wrote (x ∷ []) (record { state = due 0 0 r; area = w .area }))
-    else wrote (x ∷ []) (record { state = due (r .left - 1) (r .zeros) r; area = w .area })
+    if ltb (mostDecoded g) (r .decoded + 1) then step4Refuse 10 w
+    else if eqb (r .left) 1 then step3Decode g (replicate (r .zeros) 0) (step3Write (x ∷ []) (record { state = withDue 0 0 r; area = w .area }))
+    else step3Write (x ∷ []) (record { state = withDue (r .left - 1) (r .zeros) r; area = w .area })
 
--- Step 2: a code, by what the table says of it.
-abbrev pub blockOf : ℕ → LastBlock
-blockOf c = if eqb c 0xD0 then full else other
+-- Step 2: a code, by what the table says of it. It begins a block, whose zeros, where it has no data, are decoded at once.
+abbrev pub lastBlock : ℕ → LastBlock
+lastBlock c = if eqb c 0xD0 then blockD0 else otherBlock
 
-unfoldable pub byMeaning : Agreed → Working → ℕ → Meaning → Working
-byMeaning g w c (Counts n z) =
-    if eqb n 0 then decode g (replicate z 0) (record { state = begin (blockOf c) 0 0 (w .state); area = w .area })
-    else record { state = begin (blockOf c) n z (w .state); area = w .area }
-byMeaning g w c NotAgreed = refuse 6 w
-byMeaning g w c NoCode = refuse 7 w
+abbrev pub step2BeginBlock : LastBlock → ℕ → ℕ → Receiver → Receiver
+step2BeginBlock b n z r = withDue n z (inFrame b (r .resumed) (r .refusal) r)
 
-unfoldable pub code : Agreed → Working → ℕ → Working
-code g w c = byMeaning g w c (meaning (g .zxe) c)
+unfoldable pub step2ByMeaning : Agreed → Working → ℕ → Meaning → Working
+step2ByMeaning g w c (InTable n z) =
+    if eqb n 0 then step3Decode g (replicate z 0) (record { state = step2BeginBlock (lastBlock c) 0 0 (w .state); area = w .area })
+    else record { state = step2BeginBlock (lastBlock c) n z (w .state); area = w .area }
+step2ByMeaning g w c NotAgreed = step4Refuse 6 w
+step2ByMeaning g w c NoCode = step4Refuse 7 w
 
--- Step 1, D1: the frame is a resumed one. If PRE is off it is refused 6, and if nothing is held 8. Else the area that holds works from now
--- on, decoding goes on behind what it holds, and nothing is held.
-unfoldable pub takeUp : Fragment → Receiver → Receiver
-takeUp none r = remember 8 true r
-takeUp (octets n) r =
-    record {
-      decoded = n;
-      held = none;
-      framed = true;
-      refusal = 0;
-      left = 0;
-      zeros = 0;
-      last = noBlock;
-      resumed = true;
-      second = not (r .second);
-      settings = r .settings;
-    }
+unfoldable pub step2Code : Agreed → Working → ℕ → Working
+step2Code g w c = step2ByMeaning g w c (meaning (g .zxe) c)
 
-unfoldable pub resume : Agreed → Receiver → Receiver
-resume g r = if g .pre then takeUp (r .held) r else remember 6 true r
+-- Step 1, D1: it makes the frame a resumed one. If PRE is off it is refused 6, and if nothing is held 8. Else the area that holds becomes the
+-- work area, decoding goes on behind what it holds, and from now on nothing is held.
+unfoldable pub step1ResumeHeld : Fragment → Receiver → Receiver
+step1ResumeHeld nothingHeld r = step4Remember 8 true r
+step1ResumeHeld (holds n) r = withDue 0 0 (withDecoded n (inFrame noBlock true 0 (withHeld (not (r .turn)) nothingHeld r)))
+
+unfoldable pub step1D1 : Agreed → Receiver → Receiver
+step1D1 g r = if g .pre then step1ResumeHeld (r .held) r else step4Remember 6 true r
 
 -- Step 1: the first octet of a frame.
-unfoldable pub firstOctet : Agreed → Working → ℕ → Working
-firstOctet g w x =
-    if eqb x 0xFF then refuse 5 w
-    else if eqb x 0xD1 then record { state = resume g (w .state); area = w .area }
-    else code g w x
+unfoldable pub step1FirstOctet : Agreed → Working → ℕ → Working
+step1FirstOctet g w x =
+    if eqb x 0xFF then step4Refuse 5 w
+    else if eqb x 0xD1 then record { state = step1D1 g (w .state); area = w .area }
+    else step2Code g w x
 
--- an octet of a frame, 00 turned into 7E already; with a refusal remembered it is skipped
-unfoldable pub inside : Agreed → Working → ℕ → Working
-inside g w x =
+-- Steps 1 to 4: an octet inside a frame, 00 turned into 7E already. With a refusal remembered it is skipped (step 4).
+unfoldable pub steps1To4 : Agreed → Working → ℕ → Working
+steps1To4 g w x =
     if not (eqb (w .state .refusal) 0) then w
-    else if not (w .state .framed) then firstOctet g w x
-    else if ltb 0 (w .state .left) then dataOctet g w x
-    else code g w x
+    else if not (w .state .framed) then step1FirstOctet g w x
+    else if ltb 0 (w .state .left) then step3Data g w x
+    else step2Code g w x
 
--- ---- a flag
+-- ---- a flag (step 5)
 
 pub record Ended : Type 0 where
   pub report : Answer
   pub state : Receiver
 
--- What is held from the flag on, where the frame was refused or delivered: after a resumed one nothing, else what was held.
-abbrev pub kept : Receiver → Fragment
-kept r = if r .resumed then none else r .held
+-- What is held from the flag on, where the frame was delivered or refused: after a resumed one nothing, else what was held.
+abbrev pub heldAfter : Receiver → Fragment
+heldAfter r = if r .resumed then nothingHeld else r .held
 
-abbrev pub ends : Answer → Receiver → Ended
-ends a r = record { report = a; state = outside (r .settings) (r .second) (kept r) }
+-- a frame that is delivered or refused ends: out of a frame, with what is then held
+abbrev pub step5End : Answer → Receiver → Ended
+step5End a r = record { report = a; state = outOfFrame (r .settings) (r .turn) (heldAfter r) }
 
--- Held: the work area becomes the held one. A frame not resumed replaces an older fragment.
+-- Held: how many octets are decoded, and whether this frame, if not a resumed one, took an older fragment's place. The two areas change places:
+-- the work area holds from now on.
 abbrev pub isHeld : Fragment → Bool
-isHeld none = false
-isHeld (octets n) = true
+isHeld nothingHeld = false
+isHeld (holds n) = true
 
-abbrev pub hold : Receiver → Ended
-hold r =
+abbrev pub step5Hold : Receiver → Ended
+step5Hold r =
     record {
       report = held (r .decoded) (not (r .resumed) && isHeld (r .held));
-      state = outside (r .settings) (not (r .second)) (octets (r .decoded));
+      state = outOfFrame (r .settings) (not (r .turn)) (holds (r .decoded));
     }
 
--- inside a block: with PRE on the frame is held, else refused 11
-abbrev pub brokenOff : Agreed → Receiver → Ended
-brokenOff g r = if g .pre then hold r else ends (refused 11) r
+-- inside a block: Held where PRE is on, else refused 11
+abbrev pub step5InBlock : Agreed → Receiver → Ended
+step5InBlock g r = if g .pre then step5Hold r else step5End (refused 11) r
 
--- the phantom goes, and n octets are left: under 4 give 13, a register not F0B8 14, else they are a packet and its FCS
-unfoldable pub whole : Agreed → Receiver → List ℕ → ℕ → Ended
-whole g r area n =
-    if ltb n (leastFrame g) then ends (refused 13) r
-    else if good (g .check) (take n area) then ends (packet (r .second) (n - g .check .octets)) r
-    else ends (refused 14) r
+-- Without the phantom n octets are left. Too few for a frame (under 4 in the base) are refused 13, and those with a register that is not good
+-- 14; else they are a packet and its FCS.
+unfoldable pub step5WithoutPhantom : Agreed → Receiver → List ℕ → ℕ → Ended
+step5WithoutPhantom g r area n =
+    if ltb n (leastFrame g) then step5End (refused 13) r
+    else if good (g .check) (take n area) then step5End (packet (r .turn) (n - g .check .fcsLength)) r
+    else step5End (refused 14) r
 
--- Step 5: a remembered refusal; D1 alone; inside a block; last block D0; else the frame is whole. `area` is the work area.
-unfoldable pub close : Agreed → Receiver → List ℕ → Ended
-close g r area =
-    if not (eqb (r .refusal) 0) then ends (refused (r .refusal)) r
-    else if isNone (r .last) then ends (refused 9) r
-    else if ltb 0 (r .left) then brokenOff g r
-    else if isD0 (r .last) then ends (refused 12) r
-    else whole g r area (r .decoded - 1)
+-- Step 5, in its order: what is remembered; no block behind D1; inside a block; D0 as the last one; else the blocks are whole. `area` is the
+-- work area.
+unfoldable pub step5Flag : Agreed → Receiver → List ℕ → Ended
+step5Flag g r area =
+    if not (eqb (r .refusal) 0) then step5End (refused (r .refusal)) r
+    else if isNoBlock (r .last) then step5End (refused 9) r
+    else if ltb 0 (r .left) then step5InBlock g r
+    else if isD0 (r .last) then step5End (refused 12) r
+    else step5WithoutPhantom g r area (r .decoded - 1)
 
--- an empty frame's flag is Quiet
+-- The flag of a frame reports; where there is no frame, it is Quiet.
 unfoldable pub atFlag : Agreed → Receiver → List ℕ → Ended
-atFlag g r area = if r .framed then close g r area else record { report = quiet; state = r }
+atFlag g r area = if r .framed then step5Flag g r area else record { report = quiet; state = r }
 
 -- ---- the call
 
 -- a receiver and the two areas lent to it
-pub record Receiving : Type 0 where
+pub record ReceiverEnd : Type 0 where
   pub state : Receiver
   pub first : List ℕ
   pub second : List ℕ
 
-abbrev pub areaOf : Bool → Receiving → List ℕ
-areaOf second e = if second then e .second else e .first
+-- the first area (false) or the second (true)
+abbrev pub areaOf : Bool → ReceiverEnd → List ℕ
+areaOf turn e = if turn then e .second else e .first
 
-abbrev pub work : Receiving → Working
-work e = record { state = e .state; area = areaOf (e .state .second) e }
+-- the receiver with its work area,
+abbrev pub work : ReceiverEnd → Working
+work e = record { state = e .state; area = areaOf (e .state .turn) e }
 
--- the work area put back where it was taken from
-abbrev pub putBack : Receiving → Working → Receiving
+-- and the work area put back where it was taken from
+abbrev pub putBack : ReceiverEnd → Working → ReceiverEnd
 putBack e w =
     record {
       state = w .state;
-      first = if e .state .second then e .first else w .area;
-      second = if e .state .second then w .area else e .second;
+      first = if e .state .turn then e .first else w .area;
+      second = if e .state .turn then w .area else e .second;
     }
 
 pub record Receive : Type 0 where
   pub report : Answer
-  pub after : Receiving
+  pub after : ReceiverEnd
 
-abbrev pub flagged : Receiving → Ended → Receive
+-- what a flag comes to: it writes into neither area
+abbrev pub flagged : ReceiverEnd → Ended → Receive
 flagged e t = record { report = t .report; after = record { state = t .state; first = e .first; second = e .second } }
 
--- refusals 2 and 3, in this order; then the flag, or an octet of a frame
-unfoldable pub receive : Receiving → ℕ → Receive
+-- The receiver's call: refusals 2 and 3, in this order, or a flag, or an octet of a frame, where 00 is turned into 7E first.
+unfoldable pub receive : ReceiverEnd → ℕ → Receive
 receive e x =
     let g = agreed (e .state .settings) in
     if ltb (length (e .first)) (mostDecoded g) || ltb (length (e .second)) (mostDecoded g) then record { report = refused 2; after = e }
     else if not (inBounds g (e .state)) then record { report = refused 3; after = e }
     else if eqb x flag then flagged e (atFlag g (e .state) (work e .area))
-    else record { report = quiet; after = putBack e (inside g (work e) (fromLine x)) }
+    else record { report = quiet; after = putBack e (steps1To4 g (work e) (fromLine x)) }

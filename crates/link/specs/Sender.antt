@@ -1,5 +1,4 @@
 -- The sender's calls, load and next octet (docs/READING.md and document 01, "Sender"; the bounds: "Refusal table").
--- Assumes nothing.
 use mathlib.Core.Bool.{Bool, true, false, not, _&&_, _||_}
 use mathlib.Core.List.{List, _++_}
 use Prim.Native.Nat.{ℕ, _+_, _-_}
@@ -13,75 +12,83 @@ use Rattle.link.specs.Answers.{Answer, done, octet, idle, refused}
 pub use Rattle.link.specs.declared.sender.Lane.{Lane}
 pub use Rattle.link.specs.declared.sender.Lane.the-variants.{Low as low, High as high}
 pub use Rattle.link.specs.declared.sender.OnLine.{OnLine}
-pub use Rattle.link.specs.declared.sender.OnLine.the-variants.{Neither as neither, Sends as sending}
-pub use Rattle.link.specs.declared.sender.Queue.{Queue}
+pub use Rattle.link.specs.declared.sender.OnLine.the-variants.{NoLane as noLane, Sending as sending}
+pub use Rattle.link.specs.declared.sender.LaneState.{LaneState}
 pub use Rattle.link.specs.declared.sender.Sender.{Sender}
 
 -- ---- the state
 
--- an empty lane
-abbrev pub empty : Queue
-empty = record { length = 0; position = 0 }
+-- Document 01's list, item by item in its order, and the field of `Sender` (declared in src/sender.rt) that is the item:
+--   of each lane, its frame length and its position in D    low and high, each a `LaneState`: length (0 if empty), position
+--   data left in the block                                  left
+--   zeros due behind it                                     zeros
+--   lane on the line                                        on: `sending l`, or `noLane`
+--   mark *suspended*                                        suspended
+--   mark *cut due*                                          cut
+--   settings octet ("Code blocks")                          settings
 
--- a sender as it is opened: both lanes empty, nothing being sent, no mark
-abbrev pub opened : ℕ → Sender
-opened settings =
-    record { low = empty; high = empty; left = 0; zeros = 0; on = neither; suspended = false; cut = false; settings = settings }
+abbrev pub emptyLane : LaneState
+emptyLane = record { length = 0; position = 0 }
 
-abbrev pub queue : Lane → Sender → Queue
-queue low s = s .low
-queue high s = s .high
+-- a sender as it is opened
+abbrev pub openedSender : ℕ → Sender
+openedSender settings =
+    record { low = emptyLane; high = emptyLane; left = 0; zeros = 0; on = noLane; suspended = false; cut = false; settings = settings }
 
-abbrev pub loaded : Queue → Bool
+abbrev pub laneState : Lane → Sender → LaneState
+laneState low s = s .low
+laneState high s = s .high
+
+abbrev pub loaded : LaneState → Bool
 loaded q = ltb 0 (q .length)
 
--- the D of a lane: F stands at its area's start, and the phantom is not stored
-abbrev pub dataOf : Queue → List ℕ → List ℕ
-dataOf q area = withPhantom (take (q .length) area)
+-- D of a lane: F stands at its area's start, and the phantom is not stored
+abbrev pub laneD : LaneState → List ℕ → List ℕ
+laneD q area = withPhantom (take (q .length) area)
 
--- the state with a part of it changed: a lane's queue; its position moved on; the block; the lane on the line; the marks
-abbrev pub inLane : Lane → Queue → Sender → Sender
-inLane low q s =
+-- The state with an item changed: a lane; its position, up by n; data left and zeros due; the lane on the line; the marks.
+abbrev pub withLane : Lane → LaneState → Sender → Sender
+withLane low q s =
     record { low = q; high = s .high; left = s .left; zeros = s .zeros; on = s .on; suspended = s .suspended; cut = s .cut; settings = s .settings }
-inLane high q s =
+withLane high q s =
     record { low = s .low; high = q; left = s .left; zeros = s .zeros; on = s .on; suspended = s .suspended; cut = s .cut; settings = s .settings }
 
-abbrev pub move : ℕ → Lane → Sender → Sender
-move n l s = inLane l (record { length = queue l s .length; position = queue l s .position + n }) s
+abbrev pub positionUp : ℕ → Lane → Sender → Sender
+positionUp n l s = withLane l (record { length = laneState l s .length; position = laneState l s .position + n }) s
 
-abbrev pub block : ℕ → ℕ → Sender → Sender
-block n z s = record { low = s .low; high = s .high; left = n; zeros = z; on = s .on; suspended = s .suspended; cut = s .cut; settings = s .settings }
+abbrev pub withBlock : ℕ → ℕ → Sender → Sender
+withBlock n z s = record { low = s .low; high = s .high; left = n; zeros = z; on = s .on; suspended = s .suspended; cut = s .cut; settings = s .settings }
 
-abbrev pub onLine : OnLine → Sender → Sender
-onLine o s = record { low = s .low; high = s .high; left = s .left; zeros = s .zeros; on = o; suspended = s .suspended; cut = s .cut; settings = s .settings }
+abbrev pub withLine : OnLine → Sender → Sender
+withLine o s = record { low = s .low; high = s .high; left = s .left; zeros = s .zeros; on = o; suspended = s .suspended; cut = s .cut; settings = s .settings }
 
-abbrev pub marks : Bool → Bool → Sender → Sender
-marks suspended cut s =
+abbrev pub withMarks : Bool → Bool → Sender → Sender
+withMarks suspended cut s =
     record { low = s .low; high = s .high; left = s .left; zeros = s .zeros; on = s .on; suspended = suspended; cut = cut; settings = s .settings }
 
--- ---- in bounds (the refusal table's last paragraph)
+-- ---- in bounds ("Refusal table", last paragraph)
 
 -- an empty lane or a frame of an allowed length, and a position no further than behind D
-abbrev pub queueOk : Agreed → Queue → Bool
-queueOk g q =
+abbrev pub laneOk : Agreed → LaneState → Bool
+laneOk g q =
     (eqb (q .length) 0 || leb (leastFrame g) (q .length) && leb (q .length) (largestFrame g)) && leb (q .position) (q .length + 1)
 
--- what the lane on the line has is not empty, and its block is inside D
-abbrev pub blockOk : Queue → Sender → Bool
-blockOk q s = loaded q && leb (q .position + s .left + s .zeros) (q .length + 1)
+-- the lane on the line is loaded, and its block is inside D
+abbrev pub laneOnLineOk : LaneState → Sender → Bool
+laneOnLineOk q s = loaded q && leb (q .position + s .left + s .zeros) (q .length + 1)
 
--- with the line free nothing is left or due; low is not suspended while it sends; only low can have a cut due, and then its block has no
--- data left
+-- With no lane on the line nothing is left or due. Low is not suspended while it is on the line. Only low can have a cut due, and then its
+-- block has no data left.
 abbrev pub lineOk : OnLine → Sender → Bool
-lineOk neither s = eqb (s .left) 0 && eqb (s .zeros) 0 && not (s .cut)
-lineOk (sending low) s = blockOk (s .low) s && not (s .suspended) && (not (s .cut) || eqb (s .left) 0)
-lineOk (sending high) s = blockOk (s .high) s && not (s .cut)
+lineOk noLane s = eqb (s .left) 0 && eqb (s .zeros) 0 && not (s .cut)
+lineOk (sending low) s = laneOnLineOk (s .low) s && not (s .suspended) && (not (s .cut) || eqb (s .left) 0)
+lineOk (sending high) s = laneOnLineOk (s .high) s && not (s .cut)
 
--- 207 data octets and 2 zeros at most, and no zeros without data; what is suspended is loaded
+-- all of it, with 207 data octets and 2 zeros at the most, no zeros without data, and a frame in a lane that is suspended
 unfoldable pub inBounds : Agreed → Sender → Bool
 inBounds g s =
-    queueOk g (s .low)
-    && queueOk g (s .high)
+    laneOk g (s .low)
+    && laneOk g (s .high)
     && leb (s .left) 207
     && leb (s .zeros) 2
     && (ltb 0 (s .left) || eqb (s .zeros) 0)
@@ -95,128 +102,131 @@ pub record Load : Type 0 where
   pub state : Sender
   pub area : List ℕ
 
--- the frame over the area's first octets, what lies behind it untouched; the lane stands at its beginning
-unfoldable pub put : Agreed → Lane → List ℕ → Sender → List ℕ → Load
-put g l packet s area =
+-- Done: F over the area's first octets, and what lies behind them untouched; the lane stands at its beginning.
+unfoldable pub putFrame : Agreed → Lane → List ℕ → Sender → List ℕ → Load
+putFrame g l packet s area =
     let f = frame (g .check) packet in
     record {
       answer = done;
-      state = inLane l (record { length = length f; position = 0 }) s;
+      state = withLane l (record { length = length f; position = 0 }) s;
       area = f ++ drop (length f) area;
     }
 
--- refusals 2, 3, 4 and 1, in this order
+-- Load: refusals 2, 3, 4 and 1, in this order, or Done.
 unfoldable pub load : Lane → List ℕ → Sender → List ℕ → Load
 load l packet s area =
     let g = agreed (s .settings) in
     if ltb (length area) (largestFrame g) then record { answer = refused 2; state = s; area = area }
     else if not (inBounds g s) then record { answer = refused 3; state = s; area = area }
-    else if loaded (queue l s) then record { answer = refused 4; state = s; area = area }
+    else if loaded (laneState l s) then record { answer = refused 4; state = s; area = area }
     else if ltb (length packet) leastPacket || ltb (g .limit) (length packet) then record { answer = refused 1; state = s; area = area }
-    else put g l packet s area
+    else putFrame g l packet s area
 
 -- ---- next octet
 
--- What a call does: it sends the flag that closes a lane's frame, or the flag that breaks off the low one, or another octet of a lane; or
--- nothing. The caller sees no more than `answer`: which flag it is and whose octet is told apart here to speak of it.
+-- What a call does: it sends the flag that closes a lane's frame, or the flag that breaks off the low lane, or another octet of a lane; or
+-- nothing; or it is refused. The caller sees only the answer: which flag and whose octet it is, the demands ask.
 pub data Out : Type 0 where
   closes : Lane → Out
-  breaks : Out
+  breaksOff : Out
   sends : Lane → ℕ → Out
-  nothing : Out
+  sendsNothing : Out
   refuses : ℕ → Out
 
-abbrev pub answer : Out → Answer
-answer (closes l) = octet flag
-answer breaks = octet flag
-answer (sends l x) = octet x
-answer nothing = idle
-answer (refuses n) = refused n
+abbrev pub outAnswer : Out → Answer
+outAnswer (closes l) = octet flag
+outAnswer breaksOff = octet flag
+outAnswer (sends l x) = octet x
+outAnswer sendsNothing = idle
+outAnswer (refuses n) = refused n
 
 pub record Step : Type 0 where
   pub out : Out
   pub state : Sender
 
--- Step 1: the flag that was due. It leaves low suspended and the line free.
-abbrev pub cutOff : Sender → Step
-cutOff s = record { out = breaks; state = onLine neither (marks true false s) }
+-- What a step uses stands before it, so that step 2 comes last.
 
--- Step 3: D is covered to its end. The flag leaves the lane empty and the line free.
-abbrev pub close : Lane → Sender → Step
-close l s = record { out = closes l; state = onLine neither (inLane l empty s) }
+-- Step 1, a cut is due: the flag. From then on low is suspended, and no lane on the line.
+abbrev pub step1CutDue : Sender → Step
+step1CutDue s = record { out = breaksOff; state = withLine noLane (withMarks true false s) }
 
--- Step 4: with data left a flag, and what is left of the block is dropped; with none left 02, and a cut is due.
-unfoldable pub breakOff : Sender → Step
-breakOff s =
-    if ltb 0 (s .left) then record { out = breaks; state = onLine neither (marks true (s .cut) (block 0 0 s)) }
-    else record { out = sends low 0x02; state = marks (s .suspended) true s }
+-- Step 3, all of D is covered: the flag. It leaves the lane empty, and no lane on the line.
+abbrev pub step3Covered : Lane → Sender → Step
+step3Covered l s = record { out = closes l; state = withLine noLane (withLane l emptyLane s) }
 
--- Step 5: the next data octet; the last one also covers its block's zeros.
-unfoldable pub sendData : Lane → Sender → List ℕ → Step
-sendData l s d =
+-- Step 4, low gives way to high: with data left in its block by a flag, which drops what is left; else by 02, and a cut is due.
+unfoldable pub step4BreakOff : Sender → Step
+step4BreakOff s =
+    if ltb 0 (s .left) then record { out = breaksOff; state = withLine noLane (withMarks true (s .cut) (withBlock 0 0 s)) }
+    else record { out = sends low 0x02; state = withMarks (s .suspended) true s }
+
+-- Step 5, data is left: the next octet of D (`d`). The last one covers its block's zeros too.
+unfoldable pub step5Data : Lane → Sender → List ℕ → Step
+step5Data l s d =
     record {
-      out = sends l (toLine (getD d (queue l s .position) 0));
-      state = if eqb (s .left) 1 then block 0 0 (move (1 + s .zeros) l s) else block (s .left - 1) (s .zeros) (move 1 l s);
+      out = sends l (toLine (getD d (laneState l s .position) 0));
+      state = if eqb (s .left) 1 then withBlock 0 0 (positionUp (1 + s .zeros) l s) else withBlock (s .left - 1) (s .zeros) (positionUp 1 l s);
     }
 
--- Step 6: a code. A block that has no data is covered with it.
-unfoldable pub sendCode : Lane → Sender → Choice → Step
-sendCode l s c =
+-- Step 6, a block is chosen: its code. If the block has no data, its zeros are covered with it.
+unfoldable pub step6Code : Lane → Sender → Choice → Step
+step6Code l s c =
     record {
       out = sends l (toLine (c .code));
-      state = if eqb (c .octets) 0 then move (c .zeros) l s else block (c .octets) (c .zeros) s;
+      state = if eqb (c .nonzeros) 0 then positionUp (c .zeros) l s else withBlock (c .nonzeros) (c .zeros) s;
     }
 
 abbrev pub isLow : Lane → Bool
 isLow low = true
 isLow high = false
 
--- Steps 3 to 6, with the lane l on the line and d its D.
-unfoldable pub onward : Agreed → Lane → Sender → List ℕ → Step
-onward g l s d =
-    if ltb (queue l s .length) (queue l s .position) then close l s
-    else if isLow l && g .pre && loaded (s .high) then breakOff s
-    else if ltb 0 (s .left) then sendData l s d
-    else sendCode l s (choice (g .zxe) (drop (queue l s .position) d))
+-- Steps 3 to 6, with the lane l on the line and d its D: the first that applies.
+unfoldable pub steps3To6 : Agreed → Lane → Sender → List ℕ → Step
+steps3To6 g l s d =
+    if ltb (laneState l s .length) (laneState l s .position) then step3Covered l s
+    else if isLow l && g .pre && loaded (s .high) then step4BreakOff s
+    else if ltb 0 (s .left) then step5Data l s d
+    else step6Code l s (choice (g .zxe) (drop (laneState l s .position) d))
 
 -- a sender and the two areas lent to it
-pub record Sending : Type 0 where
+pub record SenderEnd : Type 0 where
   pub state : Sender
   pub low : List ℕ
   pub high : List ℕ
 
-abbrev pub area : Lane → Sending → List ℕ
-area low e = e .low
-area high e = e .high
+abbrev pub laneArea : Lane → SenderEnd → List ℕ
+laneArea low e = e .low
+laneArea high e = e .high
 
--- Step 2: the line is free. High goes before low; low, if it was suspended, sends D1 and is so no longer.
-unfoldable pub takeLine : Agreed → Sending → Step
-takeLine g e =
+-- Step 2, no lane on the line: high goes before low, and with both empty there is nothing to send. Low, where it was suspended, sends D1 alone
+-- and is so no longer; else the lane goes straight on.
+unfoldable pub step2NoLane : Agreed → SenderEnd → Step
+step2NoLane g e =
     let s = e .state in
-    if loaded (s .high) then onward g high (onLine (sending high) s) (dataOf (s .high) (e .high))
-    else if not (loaded (s .low)) then record { out = nothing; state = s }
-    else if s .suspended then record { out = sends low 0xD1; state = onLine (sending low) (marks false (s .cut) s) }
-    else onward g low (onLine (sending low) s) (dataOf (s .low) (e .low))
+    if loaded (s .high) then steps3To6 g high (withLine (sending high) s) (laneD (s .high) (e .high))
+    else if not (loaded (s .low)) then record { out = sendsNothing; state = s }
+    else if s .suspended then record { out = sends low 0xD1; state = withLine (sending low) (withMarks false (s .cut) s) }
+    else steps3To6 g low (withLine (sending low) s) (laneD (s .low) (e .low))
 
--- The first step that applies, by whether a cut is due and by the lane on the line.
-unfoldable pub steps : Agreed → Sending → Bool → OnLine → Step
-steps g e true o = cutOff (e .state)
-steps g e false neither = takeLine g e
-steps g e false (sending l) = onward g l (e .state) (dataOf (queue l (e .state)) (area l e))
+-- The first step that applies, by the mark cut due and by the lane on the line.
+unfoldable pub steps1To6 : Agreed → SenderEnd → Bool → OnLine → Step
+steps1To6 g e true o = step1CutDue (e .state)
+steps1To6 g e false noLane = step2NoLane g e
+steps1To6 g e false (sending l) = steps3To6 g l (e .state) (laneD (laneState l (e .state)) (laneArea l e))
 
--- refusals 2 and 3, in this order
-unfoldable pub next : Sending → Step
+-- Next octet: refusals 2 and 3, in this order, or the steps.
+unfoldable pub next : SenderEnd → Step
 next e =
     let s = e .state in
     let g = agreed (s .settings) in
     if ltb (length (e .low)) (largestFrame g) || ltb (length (e .high)) (largestFrame g) then record { out = refuses 2; state = s }
     else if not (inBounds g s) then record { out = refuses 3; state = s }
-    else steps g e (s .cut) (s .on)
+    else steps1To6 g e (s .cut) (s .on)
 
--- what the caller sees
+-- what the caller is answered
 pub record Next : Type 0 where
   pub answer : Answer
   pub state : Sender
 
 abbrev pub seen : Step → Next
-seen t = record { answer = answer (t .out); state = t .state }
+seen t = record { answer = outAnswer (t .out); state = t .state }

@@ -5,10 +5,10 @@ ghost use mathlib.Core.List.{_++_};
 ghost use Prim.Native.Nat.{ℕ, _+_, _<_, _≤_};
 ghost use lib.ListN.{length, drop, getD};
 ghost use Rattle.cobs.specs.CodeBlocks.{choice};
-ghost use Rattle.link.specs.Agreed.{agreed};
+ghost use Rattle.link.specs.Agreed.{agreed, largestFrame};
 ghost use Rattle.link.specs.Answers.{loadAnswer, nextAnswer};
-ghost use Rattle.link.specs.Sender.{opened, queue, dataOf, inLane, move, block, onLine, queueOk, blockOk, lineOk, inBounds, put, load, cutOff, close, breakOff, sendData, sendCode, isLow, onward, takeLine, steps, next, seen};
-ghost use Rattle.link.specs.SenderParts.{Ready, DataDue, SendsOn};
+ghost use Rattle.link.specs.Sender.{openedSender, laneState, laneD, withLane, positionUp, withBlock, withLine, laneOk, laneOnLineOk, lineOk, inBounds, putFrame, load, step1CutDue, step3Covered, step4BreakOff, step5Data, step6Code, isLow, steps3To6, step2NoLane, steps1To6, next, seen};
+ghost use Rattle.link.specs.SenderParts.{LaneReady, DataDue, SendsOn};
 
 // A lane is document 01's word for one of the sender's two places for a packet.
 pub enum Lane {
@@ -18,26 +18,33 @@ pub enum Lane {
 
 // The lane on the line.
 pub enum OnLine {
-    Neither,
-    Sends(Lane),
+    NoLane,
+    Sending(Lane),
 }
 
-// A lane's frame: its length (0: the lane is empty), and the position in D.
-pub struct Queue {
+// What the state has of a lane.
+pub struct LaneState {
+    // the length of its frame; 0: the lane is empty
     pub length: u16,
+    // the position in D
     pub position: u16,
 }
 
-// Of the block that is being sent, left: the data octets still to come, and zeros: the zeros behind them. suspended: the low lane was
-// broken off. cut: the flag that breaks it off comes next.
+// The state. Its items are listed in specs/Sender.antt as document 01 has them.
 pub struct Sender {
-    pub low: Queue,
-    pub high: Queue,
+    pub low: LaneState,
+    pub high: LaneState,
+    // data octets left in the block that is being sent
     pub left: u8,
+    // zeros due behind them
     pub zeros: u8,
+    // the lane on the line
     pub on: OnLine,
+    // mark: the low lane's packet was broken off
     pub suspended: bool,
+    // mark *cut due*: the flag that breaks it off comes next
     pub cut: bool,
+    // the settings octet
     pub settings: u8,
 }
 
@@ -66,9 +73,9 @@ pub struct Sent {
 
 // A sender is opened empty.
 pub fn open(settings: u8) -> Sender
-    ensures { λ r. ⌜ r ≡ opened settings ⌝ }
+    ensures { λ r. ⌜ r ≡ openedSender settings ⌝ }
 {
-    let empty = Queue {
+    let empty = LaneState {
         length: 0,
         position: 0,
     };
@@ -77,7 +84,7 @@ pub fn open(settings: u8) -> Sender
         high: empty,
         left: 0,
         zeros: 0,
-        on: OnLine::Neither,
+        on: OnLine::NoLane,
         suspended: false,
         cut: false,
         settings,
@@ -97,8 +104,8 @@ fn copy(packet: &[u8], area: &mut [u8])
 }
 
 // An empty lane or a frame of an allowed length, and a position no further than behind D. The limits are the same for all settings.
-fn queue_in_bounds(frame: u16, position: u16) -> bool
-    ensures { λ r. ⌜ ((settings : ℕ) → r ≡ queueOk (agreed settings) (record { length = frame; position = position })) ⌝ }
+fn lane_in_bounds(frame: u16, position: u16) -> bool
+    ensures { λ r. ⌜ ((settings : ℕ) → r ≡ laneOk (agreed settings) (record { length = frame; position = position })) ⌝ }
 {
     let n = frame as usize;
     ((n == 0) | (crate::LEAST_FRAME <= n) & (n <= crate::LARGEST_FRAME))
@@ -108,7 +115,7 @@ fn queue_in_bounds(frame: u16, position: u16) -> bool
 // The octet of D at a position, for a frame of so many octets; behind the frame stands the phantom.
 fn octet_at(frame: u16, position: u16, area: &[u8]) -> u8
     requires { ⌜ frame ≤ length (now area) ⌝ }
-    ensures { λ r. ⌜ r ≡ getD (dataOf (record { length = frame; position = position }) (now (area .entry))) position 0 ⌝ }
+    ensures { λ r. ⌜ r ≡ getD (laneD (record { length = frame; position = position }) (now (area .entry))) position 0 ⌝ }
 {
     if position < frame {
         return area[position as usize];
@@ -127,11 +134,11 @@ impl Lane {
     }
 }
 
-impl Queue {
+impl LaneState {
     // The code of the next block, and what it covers.
     fn choose(self, area: &[u8], zxe: bool) -> cobs::Choice
         requires { ⌜ (self .position ≤ self .length) × (self .length ≤ length (now area)) ⌝ }
-        ensures { λ r. ⌜ r ≡ choice zxe (drop (self .position) (dataOf self (now (area .entry)))) ⌝ }
+        ensures { λ r. ⌜ r ≡ choice zxe (drop (self .position) (laneD self (now (area .entry)))) ⌝ }
     {
         let position = self.position as usize;
         let length = self.length as usize;
@@ -140,8 +147,8 @@ impl Queue {
 }
 
 impl Sender {
-    fn queue(self, lane: Lane) -> Queue
-        ensures { λ r. ⌜ r ≡ queue lane self ⌝ }
+    fn lane_state(self, lane: Lane) -> LaneState
+        ensures { λ r. ⌜ r ≡ laneState lane self ⌝ }
     {
         match lane {
             Lane::Low => self.low,
@@ -149,8 +156,8 @@ impl Sender {
         }
     }
 
-    fn with_queue(self, lane: Lane, q: Queue) -> Sender
-        ensures { λ r. ⌜ r ≡ inLane lane q self ⌝ }
+    fn with_lane(self, lane: Lane, q: LaneState) -> Sender
+        ensures { λ r. ⌜ r ≡ withLane lane q self ⌝ }
     {
         let mut changed = self;
         match lane {
@@ -166,8 +173,8 @@ impl Sender {
 
     // The octet of D at a lane's position.
     fn octet(self, lane: Lane, area: &[u8]) -> u8
-        requires { ⌜ queue lane self .length ≤ length (now area) ⌝ }
-        ensures { λ r. ⌜ r ≡ getD (dataOf (queue lane self) (now (area .entry))) (queue lane self .position) 0 ⌝ }
+        requires { ⌜ laneState lane self .length ≤ length (now area) ⌝ }
+        ensures { λ r. ⌜ r ≡ getD (laneD (laneState lane self) (now (area .entry))) (laneState lane self .position) 0 ⌝ }
     {
         match lane {
             Lane::Low => octet_at(self.low.length, self.low.position, area),
@@ -175,10 +182,10 @@ impl Sender {
         }
     }
 
-    // n more octets of a lane's D are covered, and so much of the block is still to come.
+    // A lane's position up by n, and so much of the block still to come.
     fn cover(self, n: u8, lane: Lane, left: u8, zeros: u8) -> Sender
-        requires { ⌜ queue lane self .position + n < 65536 ⌝ }
-        ensures { λ r. ⌜ r ≡ block left zeros (move n lane self) ⌝ }
+        requires { ⌜ laneState lane self .position + n < 65536 ⌝ }
+        ensures { λ r. ⌜ r ≡ withBlock left zeros (positionUp n lane self) ⌝ }
     {
         let mut next = self;
         next.left = left;
@@ -198,7 +205,7 @@ impl Sender {
 
     // What is still to come of the block.
     fn with_block(self, left: u8, zeros: u8) -> Sender
-        ensures { λ r. ⌜ r ≡ block left zeros self ⌝ }
+        ensures { λ r. ⌜ r ≡ withBlock left zeros self ⌝ }
     {
         let mut changed = self;
         changed.left = left;
@@ -208,7 +215,7 @@ impl Sender {
 
     // Another lane on the line, or none.
     fn with_line(self, on: OnLine) -> Sender
-        ensures { λ r. ⌜ r ≡ onLine on self ⌝ }
+        ensures { λ r. ⌜ r ≡ withLine on self ⌝ }
     {
         let low = self.low;
         let high = self.high;
@@ -225,16 +232,16 @@ impl Sender {
     }
 
     // The lane on the line is not empty, and its block is inside D.
-    fn block_in_bounds(self, q: Queue) -> bool
-        ensures { λ r. ⌜ r ≡ blockOk q self ⌝ }
+    fn lane_on_line_in_bounds(self, q: LaneState) -> bool
+        ensures { λ r. ⌜ r ≡ laneOnLineOk q self ⌝ }
     {
         (0 < q.length)
             & (q.position as usize + self.left as usize + self.zeros as usize
                 <= q.length as usize + 1)
     }
 
-    // With the line free nothing is left or due; low is not suspended while it sends; only low can have a cut due, and then its block has no
-    // data left.
+    // With no lane on the line nothing is left or due. Low is not suspended while it is on the line. Only low can have a cut due, and then its
+    // block has no data left.
     fn line_in_bounds(self) -> bool
         ensures { λ r. ⌜ r ≡ lineOk (self .on) self ⌝ }
     {
@@ -242,13 +249,13 @@ impl Sender {
         let low = self.low;
         let high = self.high;
         match on {
-            OnLine::Neither => (self.left == 0) & (self.zeros == 0) & !self.cut,
-            OnLine::Sends(lane) => {
+            OnLine::NoLane => (self.left == 0) & (self.zeros == 0) & !self.cut,
+            OnLine::Sending(lane) => {
                 match lane {
-                    Lane::Low => self.block_in_bounds(low)
+                    Lane::Low => self.lane_on_line_in_bounds(low)
                         & !self.suspended
                         & (!self.cut | (self.left == 0)),
-                    Lane::High => self.block_in_bounds(high) & !self.cut,
+                    Lane::High => self.lane_on_line_in_bounds(high) & !self.cut,
                 }
             }
         }
@@ -258,8 +265,8 @@ impl Sender {
     fn in_bounds(self) -> bool
         ensures { λ r. ⌜ r ≡ inBounds (agreed (self .settings)) self ⌝ }
     {
-        queue_in_bounds(self.low.length, self.low.position)
-            & queue_in_bounds(self.high.length, self.high.position)
+        lane_in_bounds(self.low.length, self.low.position)
+            & lane_in_bounds(self.high.length, self.high.position)
             & (self.left <= 207)
             & (self.zeros <= 2)
             & ((0 < self.left) | (self.zeros == 0))
@@ -277,22 +284,22 @@ impl Sender {
     }
 
     // The frame over the area's first octets, what lies behind it untouched; the lane stands at its beginning.
-    fn put(self, lane: Lane, packet: &[u8], area: &mut [u8]) -> Loaded
-        requires { ⌜ (length (now packet) ≤ 2048) × (2050 ≤ length (now area)) ⌝ }
+    fn put_frame(self, lane: Lane, packet: &[u8], area: &mut [u8]) -> Loaded
+        requires { ⌜ (length (now packet) ≤ agreed (self .settings) .limit) × (largestFrame (agreed (self .settings)) ≤ length (now area)) ⌝ }
         ensures { λ r. ⌜ record { answer = loadAnswer (r .answer); state = r .state; area = now (area .exit) }
-            ≡ put (agreed (self .settings)) lane (now (packet .entry)) self (now (area .entry)) ⌝ }
+            ≡ putFrame (agreed (self .settings)) lane (now (packet .entry)) self (now (area .entry)) ⌝ }
     {
         let n = packet.len();
         copy(packet, area);
         let fcs = fcs::fcs16(packet);
         area[n] = fcs[0];
         area[n + 1] = fcs[1];
-        let q = Queue {
-            length: (n + crate::FCS_OCTETS) as u16,
+        let q = LaneState {
+            length: (n + crate::FCS_LENGTH) as u16,
             position: 0,
         };
         Loaded {
-            state: self.with_queue(lane, q),
+            state: self.with_lane(lane, q),
             answer: LoadAnswer::Done,
         }
     }
@@ -308,14 +315,14 @@ impl Sender {
         if !self.in_bounds() {
             return self.load_refused(3);
         }
-        let held = self.queue(lane).length;
-        if 0 < held {
+        let loaded = self.lane_state(lane).length;
+        if 0 < loaded {
             return self.load_refused(4);
         }
         if (packet.len() < crate::LEAST_PACKET) | (crate::LARGEST_PACKET < packet.len()) {
             return self.load_refused(1);
         }
-        self.put(lane, packet, area)
+        self.put_frame(lane, packet, area)
     }
 
     fn next_refused(self, n: u8) -> Sent
@@ -336,35 +343,35 @@ impl Sender {
         }
     }
 
-    // Step 1: the flag that was due. It leaves low suspended and the line free.
-    fn cut_off(self) -> Sent
-        ensures { λ r. ⌜ record { answer = nextAnswer (r .answer); state = r .state } ≡ seen (cutOff self) ⌝ }
+    // Step 1, a cut is due: the flag.
+    fn step1_cut_due(self) -> Sent
+        ensures { λ r. ⌜ record { answer = nextAnswer (r .answer); state = r .state } ≡ seen (step1CutDue self) ⌝ }
     {
-        let mut off = self.with_line(OnLine::Neither);
+        let mut off = self.with_line(OnLine::NoLane);
         off.suspended = true;
         off.cut = false;
         off.sent(cobs::FLAG)
     }
 
-    // Step 3: D is covered to its end. The flag leaves the lane empty and the line free.
-    fn close(self, lane: Lane) -> Sent
-        ensures { λ r. ⌜ record { answer = nextAnswer (r .answer); state = r .state } ≡ seen (close lane self) ⌝ }
+    // Step 3, all of D is covered: the flag. The lane is empty.
+    fn step3_covered(self, lane: Lane) -> Sent
+        ensures { λ r. ⌜ record { answer = nextAnswer (r .answer); state = r .state } ≡ seen (step3Covered lane self) ⌝ }
     {
-        let empty = Queue {
+        let empty = LaneState {
             length: 0,
             position: 0,
         };
-        self.with_queue(lane, empty)
-            .with_line(OnLine::Neither)
+        self.with_lane(lane, empty)
+            .with_line(OnLine::NoLane)
             .sent(cobs::FLAG)
     }
 
-    // Step 4: with data left the flag, and what is left of the block is dropped; with none left 02, and a cut is due.
-    fn break_off(self) -> Sent
-        ensures { λ r. ⌜ record { answer = nextAnswer (r .answer); state = r .state } ≡ seen (breakOff self) ⌝ }
+    // Step 4, low gives way to high: with data left by the flag, and what is left of the block is dropped; else by 02, and a cut is due.
+    fn step4_break_off(self) -> Sent
+        ensures { λ r. ⌜ record { answer = nextAnswer (r .answer); state = r .state } ≡ seen (step4BreakOff self) ⌝ }
     {
         if 0 < self.left {
-            let mut off = self.with_block(0, 0).with_line(OnLine::Neither);
+            let mut off = self.with_block(0, 0).with_line(OnLine::NoLane);
             off.suspended = true;
             return off.sent(cobs::FLAG);
         }
@@ -373,11 +380,11 @@ impl Sender {
         due.sent(0x02)
     }
 
-    // Step 5: the next data octet; the last one also covers its block's zeros.
-    fn send_data(self, lane: Lane, area: &[u8]) -> Sent
-        requires { ⌜ (0 < self .left) × Ready (queue lane self) (self .left) (self .zeros) (now area) ⌝ }
+    // Step 5, data is left: the next data octet. The last one covers its block's zeros too.
+    fn step5_data(self, lane: Lane, area: &[u8]) -> Sent
+        requires { ⌜ (0 < self .left) × LaneReady (agreed (self .settings)) (laneState lane self) (self .left) (self .zeros) (now area) ⌝ }
         ensures { λ r. ⌜ record { answer = nextAnswer (r .answer); state = r .state }
-            ≡ seen (sendData lane self (dataOf (queue lane self) (now (area .entry)))) ⌝ }
+            ≡ seen (step5Data lane self (laneD (laneState lane self) (now (area .entry)))) ⌝ }
     {
         let octet = cobs::to_line(self.octet(lane, area));
         if self.left == 1 {
@@ -386,57 +393,58 @@ impl Sender {
         self.cover(1, lane, self.left - 1, self.zeros).sent(octet)
     }
 
-    // Step 6: a code. A block that has no data is covered with it.
-    fn send_code(self, lane: Lane, c: cobs::Choice) -> Sent
-        requires { ⌜ queue lane self .position ≤ 2050 ⌝ }
-        ensures { λ r. ⌜ record { answer = nextAnswer (r .answer); state = r .state } ≡ seen (sendCode lane self c) ⌝ }
+    // Step 6, a block is chosen: its code. If the block has no data, its zeros are covered with it.
+    fn step6_code(self, lane: Lane, c: cobs::Choice) -> Sent
+        requires { ⌜ laneState lane self .position ≤ largestFrame (agreed (self .settings)) ⌝ }
+        ensures { λ r. ⌜ record { answer = nextAnswer (r .answer); state = r .state } ≡ seen (step6Code lane self c) ⌝ }
     {
         let code = cobs::to_line(c.code);
-        if c.octets == 0 {
+        if c.nonzeros == 0 {
             return self.cover(c.zeros, lane, self.left, self.zeros).sent(code);
         }
-        self.with_block(c.octets, c.zeros).sent(code)
+        self.with_block(c.nonzeros, c.zeros).sent(code)
     }
 
     // Steps 3 to 6, with the lane on the line.
-    fn onward(self, lane: Lane, area: &[u8]) -> Sent
-        requires { ⌜ Ready (queue lane self) (self .left) (self .zeros) (now area) ⌝ }
+    fn steps_3_to_6(self, lane: Lane, area: &[u8]) -> Sent
+        requires { ⌜ LaneReady (agreed (self .settings)) (laneState lane self) (self .left) (self .zeros) (now area) ⌝ }
         ensures { λ r. ⌜ record { answer = nextAnswer (r .answer); state = r .state }
-            ≡ seen (onward (agreed (self .settings)) lane self (dataOf (queue lane self) (now (area .entry)))) ⌝ }
+            ≡ seen (steps3To6 (agreed (self .settings)) lane self (laneD (laneState lane self) (now (area .entry)))) ⌝ }
     {
-        let q = self.queue(lane);
+        let q = self.lane_state(lane);
         let high = self.high;
         if q.length < q.position {
-            return self.close(lane);
+            return self.step3_covered(lane);
         }
         if lane.is_low() & crate::pre(self.settings) & (0 < high.length) {
-            return self.break_off();
+            return self.step4_break_off();
         }
         if 0 < self.left {
-            return self.send_data(lane, area);
+            return self.step5_data(lane, area);
         }
-        self.send_code(lane, q.choose(area, crate::zxe(self.settings)))
+        self.step6_code(lane, q.choose(area, crate::zxe(self.settings)))
     }
 
-    // Step 2: the line is free. High goes before low; low, if it was suspended, sends D1 and is so no longer.
-    fn take_line(self, low: &[u8], high: &[u8]) -> Sent
-        requires { ⌜ Ready (self .low) (self .left) (self .zeros) (now low) × Ready (self .high) (self .left) (self .zeros) (now high) ⌝ }
+    // Step 2, no lane on the line: high goes before low. Low, where it was suspended, sends D1 alone and is so no longer.
+    fn step2_no_lane(self, low: &[u8], high: &[u8]) -> Sent
+        requires { ⌜ LaneReady (agreed (self .settings)) (self .low) (self .left) (self .zeros) (now low)
+            × LaneReady (agreed (self .settings)) (self .high) (self .left) (self .zeros) (now high) ⌝ }
         ensures { λ r. ⌜ record { answer = nextAnswer (r .answer); state = r .state }
-            ≡ seen (takeLine (agreed (self .settings)) (record { state = self; low = now (low .entry); high = now (high .entry) })) ⌝ }
+            ≡ seen (step2NoLane (agreed (self .settings)) (record { state = self; low = now (low .entry); high = now (high .entry) })) ⌝ }
     {
         let high_lane = self.high;
         let low_lane = self.low;
         if 0 < high_lane.length {
-            return self.with_line(OnLine::Sends(Lane::High))
-                .onward(Lane::High, high);
+            return self.with_line(OnLine::Sending(Lane::High))
+                .steps_3_to_6(Lane::High, high);
         }
         if 0 < low_lane.length {
-            let mut on = self.with_line(OnLine::Sends(Lane::Low));
+            let mut on = self.with_line(OnLine::Sending(Lane::Low));
             if self.suspended {
                 on.suspended = false;
                 return on.sent(0xd1);
             }
-            return on.onward(Lane::Low, low);
+            return on.steps_3_to_6(Lane::Low, low);
         }
         Sent {
             state: self,
@@ -445,21 +453,23 @@ impl Sender {
     }
 
     // The first step that applies.
-    fn steps(self, low: &[u8], high: &[u8]) -> Sent
-        requires { ⌜ (inBounds (agreed (self .settings)) self ≡ true) × (2050 ≤ length (now low)) × (2050 ≤ length (now high)) ⌝ }
+    fn steps_1_to_6(self, low: &[u8], high: &[u8]) -> Sent
+        requires { ⌜ (inBounds (agreed (self .settings)) self ≡ true)
+            × (largestFrame (agreed (self .settings)) ≤ length (now low))
+            × (largestFrame (agreed (self .settings)) ≤ length (now high)) ⌝ }
         ensures { λ r. ⌜ record { answer = nextAnswer (r .answer); state = r .state }
-            ≡ seen (steps (agreed (self .settings)) (record { state = self; low = now (low .entry); high = now (high .entry) }) (self .cut) (self .on)) ⌝ }
+            ≡ seen (steps1To6 (agreed (self .settings)) (record { state = self; low = now (low .entry); high = now (high .entry) }) (self .cut) (self .on)) ⌝ }
     {
         let on = self.on;
         if self.cut {
-            return self.cut_off();
+            return self.step1_cut_due();
         }
         match on {
-            OnLine::Neither => self.take_line(low, high),
-            OnLine::Sends(lane) => {
+            OnLine::NoLane => self.step2_no_lane(low, high),
+            OnLine::Sending(lane) => {
                 match lane {
-                    Lane::Low => self.onward(Lane::Low, low),
-                    Lane::High => self.onward(Lane::High, high),
+                    Lane::Low => self.steps_3_to_6(Lane::Low, low),
+                    Lane::High => self.steps_3_to_6(Lane::High, high),
                 }
             }
         }
@@ -467,21 +477,21 @@ impl Sender {
 
     // Refusal 3, then the steps.
     fn checked(self, low: &[u8], high: &[u8]) -> Sent
-        requires { ⌜ (2050 ≤ length (now low)) × (2050 ≤ length (now high)) ⌝ }
+        requires { ⌜ (largestFrame (agreed (self .settings)) ≤ length (now low)) × (largestFrame (agreed (self .settings)) ≤ length (now high)) ⌝ }
         ensures { λ r. ⌜ record { answer = nextAnswer (r .answer); state = r .state }
             ≡ seen (next (record { state = self; low = now (low .entry); high = now (high .entry) })) ⌝ }
     {
         if !self.in_bounds() {
             return self.next_refused(3);
         }
-        self.steps(low, high)
+        self.steps_1_to_6(low, high)
     }
 
     // ---- the short way: most calls find a data octet due and nothing else; what is in bounds then takes few tests
 
     // A block with data left, inside the D of a frame of so many octets.
     fn data_due(self, frame: u16, position: u16) -> bool
-        ensures { λ r. ⌜ (r ≡ true → DataDue frame position self) ⌝ }
+        ensures { λ r. ⌜ (r ≡ true → DataDue (agreed (self .settings)) frame position self) ⌝ }
     {
         if (frame as usize) < crate::LEAST_FRAME {
             return false;
@@ -530,7 +540,7 @@ impl Sender {
         if self.suspended & (self.low.length == 0) {
             return false;
         }
-        if !queue_in_bounds(self.low.length, self.low.position) {
+        if !lane_in_bounds(self.low.length, self.low.position) {
             return false;
         }
         self.data_due(self.high.length, self.high.position)
@@ -546,18 +556,18 @@ impl Sender {
         }
         let on = self.on;
         match on {
-            OnLine::Neither => self.checked(low, high),
-            OnLine::Sends(lane) => {
+            OnLine::NoLane => self.checked(low, high),
+            OnLine::Sending(lane) => {
                 match lane {
                     Lane::Low => {
                         if self.low_sends_on() {
-                            return self.send_data(Lane::Low, low);
+                            return self.step5_data(Lane::Low, low);
                         }
                         self.checked(low, high)
                     }
                     Lane::High => {
                         if self.high_sends_on() {
-                            return self.send_data(Lane::High, high);
+                            return self.step5_data(Lane::High, high);
                         }
                         self.checked(low, high)
                     }

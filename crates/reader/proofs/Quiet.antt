@@ -1,5 +1,4 @@
 -- Octets that are answered Quiet, many at once: those before a flag, in a refused frame and in a block.
--- Assumes nothing.
 use mathlib.Core.Path.{_≡_, refl, sym, ap, subst, _∙_}
 use mathlib.Core.Bool.{true, false}
 use mathlib.Core.List.{List, [], _∷_, map}
@@ -13,11 +12,13 @@ use lib.ListN.{length, take, drop, getD, set, length-map, length-take, length-dr
 use lib.Seq.{take-all, drop-cons, drop-drop, sets, sets-eq}
 use Rattle.cobs.specs.CodeBlocks.{flag, fromLine}
 use Rattle.cobs.proofs.Tests.{branch}
-use Rattle.link.specs.Receiver.{Receiving, Receive, write, work, receive}
-use Rattle.link.proofs.ReadOn.{Accepts, after-quiet, skips, afterData, decodes, data-more, no-data, data-area}
+use Rattle.link.specs.Agreed.{agreed, mostDecoded}
+use Rattle.link.specs.Receiver.{ReceiverEnd, Receive, write, work, receive}
+use Rattle.link.specs.ReceiverParts.{ReceiverReady}
+use Rattle.link.proofs.ReadOn.{after-quiet, skips, afterData, decodes, data-more, no-data, data-area}
 use Rattle.reader.specs.Stretches.{beforeFlag, withCounts}
 use Rattle.link.specs.Answers.{isQuiet}
-use Rattle.reader.specs.Reading.{Reach, further, readOn}
+use Rattle.reader.specs.Reading.{Reach, usedBefore, readOn}
 use Rattle.reader.proofs.Steps.{from-quiet, begins}
 use Rattle.reader.proofs.NothingLost.{is-quiet}
 
@@ -53,40 +54,40 @@ all-stored area xs at h = sets-eq (map fromLine xs) area at (rw length-map h)
 -- ---- reading on over them
 
 -- after a Quiet answer
-pub accepts : (e : Receiving) (x : ℕ) (h : Receive) → h ≡ receive e x → isQuiet (h .report) ≡ true → Accepts (h .after)
-accepts e x h p q =
-    subst (λ (g : Receive). Accepts (g .after)) (sym p) (after-quiet e x (ap (λ (g : Receive). g .report) (sym p) ∙ is-quiet (h .report) q))
+pub ready-after : (e : ReceiverEnd) (x : ℕ) (h : Receive) → h ≡ receive e x → isQuiet (h .report) ≡ true → ReceiverReady (h .after)
+ready-after e x h p q =
+    subst (λ (g : Receive). ReceiverReady (g .after)) (sym p) (after-quiet e x (ap (λ (g : Receive). g .report) (sym p) ∙ is-quiet (h .report) q))
 
 -- n octets at once, in the loop
-pub goes-far : (e f : Receiving) (xs : List ℕ) (i n : ℕ)
-    → (let rest = take (length xs - i) (drop i xs) in readOn e rest ≡ further n (readOn f (drop n rest)))
-    → further i (readOn e (drop i xs)) ≡ further (i + n) (readOn f (drop (i + n) xs))
+pub goes-far : (e f : ReceiverEnd) (xs : List ℕ) (i n : ℕ)
+    → (let rest = take (length xs - i) (drop i xs) in readOn e rest ≡ usedBefore n (readOn f (drop n rest)))
+    → usedBefore i (readOn e (drop i xs)) ≡ usedBefore (i + n) (readOn f (drop (i + n) xs))
 goes-far e f xs i n p =
     let whole = take-all (length xs - i) (drop i xs) (omega (arith, length-drop i xs)) in
-    ap (further i) (rw whole at p) ∙ rw (drop-drop n i xs, add-assoc)
+    ap (usedBefore i) (rw whole at p) ∙ rw (drop-drop n i xs, add-assoc)
 
-one-further : (n : ℕ) (r : Reach) → further 1 (further n r) ≡ further (suc n) r
-one-further n r =
+one-behind : (n : ℕ) (r : Reach) → usedBefore 1 (usedBefore n r) ≡ usedBefore (suc n) r
+one-behind n r =
     let e : 1 + (n + r .used) ≡ suc n + r .used = omega arith in
     ap (λ (m : ℕ). record { report = r .report; after = r .after; used = m }) e
 
 -- a refusal is remembered
-pub skips-on : (e : Receiving) → Accepts e → (e .state .refusal ≡ 0 → ⊥) → (l : List ℕ)
-    → readOn e l ≡ further (beforeFlag l) (readOn e (drop (beforeFlag l) l))
+pub skips-on : (e : ReceiverEnd) → ReceiverReady e → (e .state .refusal ≡ 0 → ⊥) → (l : List ℕ)
+    → readOn e l ≡ usedBefore (beforeFlag l) (readOn e (drop (beforeFlag l) l))
 unfolding beforeFlag
 skips-on e a n [] = begins e []
 skips-on e a n (x ∷ l) =
-    branch (λ k. readOn e (x ∷ l) ≡ further k (readOn e (drop k (x ∷ l)))) (eqb x flag) (λ _. begins e (x ∷ l))
-    (λ t. from-quiet e x l _ (sym (skips e x a n (eqb-false x flag t))) refl ∙ ap (further 1) (skips-on e a n l) ∙ one-further _ _)
+    branch (λ k. readOn e (x ∷ l) ≡ usedBefore k (readOn e (drop k (x ∷ l)))) (eqb x flag) (λ _. begins e (x ∷ l))
+    (λ t. from-quiet e x l _ (sym (skips e x a n (eqb-false x flag t))) refl ∙ ap (usedBefore 1) (skips-on e a n l) ∙ one-behind _ _)
 
 -- k data octets, turned back and stored behind those decoded
-abbrev pub stored : ℕ → List ℕ → Receiving → Receiving
+abbrev pub stored : ℕ → List ℕ → ReceiverEnd → ReceiverEnd
 stored k l e = afterData k (sets (work e .area) (e .state .decoded) (map fromLine (take k l))) e
 
-none-stored : (e : Receiving) (l : List ℕ) → readOn e l ≡ further 0 (readOn (stored 0 l e) (drop 0 l))
+none-stored : (e : ReceiverEnd) (l : List ℕ) → readOn e l ≡ usedBefore 0 (readOn (stored 0 l e) (drop 0 l))
 none-stored e l = rw (no-data e) (begins e l)
 
-stored-more : (k x : ℕ) (l : List ℕ) (e : Receiving)
+stored-more : (k x : ℕ) (l : List ℕ) (e : ReceiverEnd)
     → stored k l (afterData 1 (set (work e .area) (e .state .decoded) (fromLine x)) e) ≡ stored (suc k) (x ∷ l) e
 stored-more k x l e =
     let n = e .state .decoded in
@@ -96,43 +97,44 @@ stored-more k x l e =
     ap (λ (area : List ℕ). afterData k area (afterData 1 one e)) s ∙ data-more k (sets one (suc n) rest) one e
 
 -- n data octets are left before the last of their block, and there is room for them
-pub stores-on : (n : ℕ) (l : List ℕ) (e : Receiving) → Accepts e → e .state .refusal ≡ 0 → n < e .state .left → e .state .decoded + n ≤ 2051
-    → (let k = beforeFlag (take n l) in readOn e l ≡ further k (readOn (stored k l e) (drop k l)))
+pub stores-on : (n : ℕ) (l : List ℕ) (e : ReceiverEnd) → ReceiverReady e → e .state .refusal ≡ 0 → n < e .state .left → e .state .decoded + n ≤ mostDecoded (agreed (e .state .settings))
+    → (let k = beforeFlag (take n l) in readOn e l ≡ usedBefore k (readOn (stored k l e) (drop k l)))
 unfolding beforeFlag
 stores-on zero l e a c h d = none-stored e l
 stores-on (suc n) [] e a c h d = none-stored e []
 stores-on (suc n) (x ∷ l) e a c h d =
-    branch (λ k. readOn e (x ∷ l) ≡ further k (readOn (stored k (x ∷ l) e) (drop k (x ∷ l)))) (eqb x flag) (λ _. none-stored e (x ∷ l))
+    branch (λ k. readOn e (x ∷ l) ≡ usedBefore k (readOn (stored k (x ∷ l) e) (drop k (x ∷ l)))) (eqb x flag) (λ _. none-stored e (x ∷ l))
     (λ t.
     let p = decodes e x a c (omega arith) (omega arith) (eqb-false x flag t) in
     let k = beforeFlag (take n l) in
-    let f = subst (λ (h : Receive). Accepts (h .after)) p (after-quiet e x (ap (λ (h : Receive). h .report) p)) in
+    let f = subst (λ (h : Receive). ReceiverReady (h .after)) p (after-quiet e x (ap (λ (h : Receive). h .report) p)) in
     from-quiet e x l _ (sym p) refl
-    ∙ ap (further 1) (stores-on n l _ f c (omega arith) (omega arith))
-    ∙ ap (λ (g : Receiving). further 1 (further k (readOn g (drop k l)))) (stored-more k x l e)
-    ∙ one-further _ _)
+    ∙ ap (usedBefore 1) (stores-on n l _ f c (omega arith) (omega arith))
+    ∙ ap (λ (g : ReceiverEnd). usedBefore 1 (usedBefore k (readOn g (drop k l)))) (stored-more k x l e)
+    ∙ one-behind _ _)
 
 -- the same as the code does it: `used` octets are written into the work area, which is `area` afterwards
-module _ (e : Receiving) (l : List ℕ) (n used : ℕ) (area : List ℕ) (a : Accepts e) (c : e .state .refusal ≡ 0) (h : n < e .state .left)
-    (d : e .state .decoded + n ≤ 2051) (k : used ≡ beforeFlag (take n l)) where
+module _ (e : ReceiverEnd) (l : List ℕ) (n used : ℕ) (area : List ℕ) (a : ReceiverReady e) (c : e .state .refusal ≡ 0) (h : n < e .state .left)
+    (d : e .state .decoded + n ≤ mostDecoded (agreed (e .state .settings))) (k : used ≡ beforeFlag (take n l)) where
   reads-on : area ≡ write (work e .area) (e .state .decoded) (map fromLine (take used l))
-      → readOn e l ≡ further used (readOn (afterData used area e) (drop used l))
+      → readOn e l ≡ usedBefore used (readOn (afterData used area e) (drop used l))
   reads-on w =
       let m = e .state .decoded in
-      let long : 2051 ≤ length (work e .area) = branch (λ (b : List ℕ). 2051 ≤ length b) (e .state .second) (λ _. a .2) (λ _. a .1) in
+      let room = mostDecoded (agreed (e .state .settings)) in
+      let long : room ≤ length (work e .area) = branch (λ (b : List ℕ). room ≤ length b) (e .state .turn) (λ _. a .2) (λ _. a .1) in
       let fits : m + length (take used l) ≤ length (work e .area) =
       omega (arith, long, k, within (take n l), length-take n l, length-take used l) in
-      let p : readOn e l ≡ further used (readOn (stored used l e) (drop used l)) = rw k (stores-on n l e a c h d) in
-      p ∙ ap (λ (b : List ℕ). further used (readOn (afterData used b e) (drop used l))) (all-stored (work e .area) (take used l) m fits ∙ sym w)
+      let p : readOn e l ≡ usedBefore used (readOn (stored used l e) (drop used l)) = rw k (stores-on n l e a c h d) in
+      p ∙ ap (λ (b : List ℕ). usedBefore used (readOn (afterData used b e) (drop used l))) (all-stored (work e .area) (take used l) m fits ∙ sym w)
 
-  abbrev after : List ℕ → List ℕ → Receiving
+  abbrev after : List ℕ → List ℕ → ReceiverEnd
   after first second =
       record { state = withCounts (e .state .decoded + used) (e .state .left - used) (e .state); first = first; second = second }
 
-  pub in-second : e .state .second ≡ true → area ≡ write (e .second) (e .state .decoded) (map fromLine (take used l))
-      → readOn e l ≡ further used (readOn (after (e .first) area) (drop used l))
+  pub in-second : e .state .turn ≡ true → area ≡ write (e .second) (e .state .decoded) (map fromLine (take used l))
+      → readOn e l ≡ usedBefore used (readOn (after (e .first) area) (drop used l))
   in-second t w = simp t (simp t at (reads-on (simp t w)))
 
-  pub in-first : e .state .second ≡ false → area ≡ write (e .first) (e .state .decoded) (map fromLine (take used l))
-      → readOn e l ≡ further used (readOn (after area (e .second)) (drop used l))
+  pub in-first : e .state .turn ≡ false → area ≡ write (e .first) (e .state .decoded) (map fromLine (take used l))
+      → readOn e l ≡ usedBefore used (readOn (after area (e .second)) (drop used l))
   in-first t w = simp t (simp t at (reads-on (simp t w)))

@@ -1,15 +1,14 @@
 // Reading on: a receiver is given whole stretches of a line, and comes back at each report (specs/Reading.antt).
 ghost use mathlib.Core.Path.{_≡_};
-ghost use mathlib.Core.Bool.{true};
 ghost use mathlib.Core.List.{map};
 ghost use Prim.Native.Nat.{min, _+_, _≤_};
 ghost use lib.ListN.{length, drop};
 ghost use Rattle.cobs.specs.CodeBlocks.{fromLine};
-ghost use Rattle.link.specs.Agreed.{agreed};
-ghost use Rattle.link.specs.Answers.{report, isQuiet};
-ghost use Rattle.link.specs.Receiver.{inBounds, write};
+ghost use Rattle.link.specs.Answers.{reportAnswer, isQuiet};
+ghost use Rattle.link.specs.Receiver.{write};
+ghost use Rattle.link.specs.ReceiverParts.{ReceiverReady};
 ghost use Rattle.reader.specs.Stretches.{beforeFlag, withCounts};
-ghost use Rattle.reader.specs.Reading.{further, readOn};
+ghost use Rattle.reader.specs.Reading.{usedBefore, readOn};
 use link::receiver::Receiver;
 use link::receiver::Report;
 
@@ -21,7 +20,7 @@ pub struct Reached {
 }
 
 fn is_quiet(answer: Report) -> bool
-    ensures { λ r. ⌜ r ≡ isQuiet (report answer) ⌝ }
+    ensures { λ r. ⌜ r ≡ isQuiet (reportAnswer answer) ⌝ }
 {
     match answer {
         Report::Quiet => true,
@@ -29,15 +28,6 @@ fn is_quiet(answer: Report) -> bool
         Report::Held { .. } => false,
         Report::Refused(_) => false,
     }
-}
-
-fn least(a: usize, b: usize) -> usize
-    ensures { λ r. ⌜ r ≡ min a b ⌝ }
-{
-    if a < b {
-        return a;
-    }
-    b
 }
 
 // How many octets stand before the first flag.
@@ -76,9 +66,9 @@ struct Passed {
 // The calls for the next octets at once, as far as they are known to be Quiet: in a refused frame those before the flag, in a block the data
 // octets before a flag and before the block's last, with which its zeros are decoded.
 fn stretch(state: Receiver, octets: &[u8], first: &mut [u8], second: &mut [u8]) -> Passed
-    requires { ⌜ (inBounds (agreed (state .settings)) state ≡ true) × (2051 ≤ length (now first)) × (2051 ≤ length (now second)) ⌝ }
+    requires { ⌜ ReceiverReady (record { state = state; first = now first; second = now second }) ⌝ }
     ensures { λ r. ⌜ readOn (record { state = state; first = now (first .entry); second = now (second .entry) }) (now (octets .entry))
-        ≡ further (r .used)
+        ≡ usedBefore (r .used)
         (readOn
         (record { state = withCounts (r .decoded) (r .left) state; first = now (first .exit); second = now (second .exit) })
         (drop (r .used) (now (octets .entry)))) ⌝ }
@@ -101,12 +91,15 @@ fn stretch(state: Receiver, octets: &[u8], first: &mut [u8], second: &mut [u8]) 
         };
     }
     let at = state.decoded as usize;
-    let most = least(least(ahead - 1, link::MOST_DECODED - at), octets.len());
+    let most = cobs::lesser(
+        cobs::lesser(ahead - 1, link::MOST_DECODED - at),
+        octets.len(),
+    );
     let used = before_flag(&octets[0..most]);
     let decoded = (at + used) as u16;
     let left = (ahead - used) as u8;
     let data = &octets[0..used];
-    if state.second {
+    if state.turn {
         copy_data(data, second, at);
     } else {
         copy_data(data, first, at);
@@ -121,7 +114,7 @@ fn stretch(state: Receiver, octets: &[u8], first: &mut [u8], second: &mut [u8]) 
 // Gives a receiver the octets of a stretch, one after another, up to and with the first that is answered by anything but Quiet.
 pub fn read_on(state: Receiver, octets: &[u8], first: &mut [u8], second: &mut [u8]) -> Reached
     ensures { λ r. ⌜ record {
-      report = report (r .report);
+      report = reportAnswer (r .report);
       after = record { state = r .state; first = now (first .exit); second = now (second .exit) };
       used = r .used;
     }

@@ -23,7 +23,7 @@ enum Fault {
     Nothing,
     Unread,
     CutShort,
-    NoLane,
+    WrongLane,
     Refused,
 }
 
@@ -179,7 +179,9 @@ fn read(
             over: true,
         };
     }
-    take(line, came.octets, input, low, high, page)
+    let n = came.octets;
+    let taken = records(line, &input[0..n], low, high, page);
+    rest_of(taken, n, input)
 }
 
 fn more(fd: i32, kept: usize, input: &mut [u8]) -> Came
@@ -191,19 +193,11 @@ fn more(fd: i32, kept: usize, input: &mut [u8]) -> Came
     Came { got, octets }
 }
 
-// The records of the first n octets of the input; what is left of these goes to its start.
-fn take(
-    line: Line,
-    n: usize,
-    input: &mut [u8],
-    low: &mut [u8],
-    high: &mut [u8],
-    page: &mut [u8],
-) -> Rest
-    requires { ⌜ (line .filled < length (now page)) × (n ≤ length (now input)) ⌝ }
-    ensures { λ r. ⌜ (r .line .filled < length (now (page .exit))) × (r .kept ≤ length (now (input .exit))) ⌝ }
+// What is left of the first n octets of the input, behind the records taken of them, goes to its start.
+fn rest_of(taken: Taken, n: usize, input: &mut [u8]) -> Rest
+    requires { ⌜ (taken .used ≤ n) × (n ≤ length (now input)) ⌝ }
+    ensures { λ r. ⌜ (r .line .filled ≤ taken .line .filled) × (r .kept ≤ length (now (input .exit))) ⌝ }
 {
-    let taken = records(line, &input[0..n], low, high, page);
     let after = taken.line;
     let fault = taken.fault;
     let kept = keep(taken.used, n, input);
@@ -326,7 +320,7 @@ fn carry_out(
             let free = make_way(line, Lane::High, wait, low, high, page);
             load(free, Lane::High, packet, high, page)
         }
-        _ => stop(line, Fault::NoLane, page),
+        _ => stop(line, Fault::WrongLane, page),
     }
 }
 
@@ -426,7 +420,7 @@ fn go_on(line: Line, most: usize, low: &[u8], high: &[u8], page: &mut [u8]) -> S
         return Step { line, octets: 0 };
     }
     let filled = line.filled;
-    let end = filled + least(most, page.len() - filled);
+    let end = filled + cobs::lesser(most, page.len() - filled);
     let written = writer::write_on(line.state, low, high, &mut page[filled..end]);
     let state = written.state;
     let octets = written.filled;
@@ -448,15 +442,6 @@ fn turn(line: Line, page: &[u8]) -> Line
         return line;
     }
     write_out(line, page)
-}
-
-fn least(a: usize, b: usize) -> usize
-    ensures { λ r. ⌜ (r ≤ a) × (r ≤ b) ⌝ }
-{
-    if a < b {
-        return a;
-    }
-    b
 }
 
 // The page is written to standard output, or complained of.
@@ -526,7 +511,7 @@ fn told(outcome: Outcome, name: &[u8]) -> bool {
             say(b"it is cut short, the file ends within it\n");
             false
         }
-        Fault::NoLane => {
+        Fault::WrongLane => {
             complain(name, outcome.records, outcome.octets);
             say(b"its lane is neither L nor H\n");
             false

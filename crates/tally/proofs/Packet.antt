@@ -1,5 +1,4 @@
 -- What is shown of a Packet report is the packet that it stands for.
--- Assumes nothing.
 use mathlib.Core.List.{List}
 use mathlib.Core.Option.{some}
 use mathlib.Core.Path.{_≡_, ap, subst, _∙_}

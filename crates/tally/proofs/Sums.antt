@@ -1,5 +1,4 @@
 -- Each count is the number of reports of its kind, and below the largest they add up.
--- Assumes nothing.
 use mathlib.Core.Bool.{true, false, _&&_}
 use mathlib.Core.List.{List, [], _∷_, sum}
 use mathlib.Core.Path.{_≡_, refl, sym, _∙_}
@@ -14,7 +13,7 @@ use Rattle.fcs.specs.Notation.{if_then_else_}
 use Rattle.cobs.proofs.Tests.{branch, decide, and-left, and-right}
 use Rattle.link.proofs.Tests.{and-intro, true-false, false-true}
 use Rattle.link.specs.Answers.{Answer, done, octet, idle, quiet, packet, held, refused}
-use Rattle.tally.specs.Counts.{Tally, places, largest, empty, place, count, raised, note}
+use Rattle.tally.specs.Counts.{Tally, places, largestCount, emptyTally, place, countAt, raised, note}
 use Rattle.tally.specs.Sums.{total, isCounted, ofKind, Fits, EachCount, AddUp, FromEmpty}
 
 -- ---- a report is counted at the place of its kind, and at no other
@@ -67,9 +66,9 @@ pub note-quiet : (t : Tally) → note t quiet ≡ t
 unfolding note place
 note-quiet t = refl
 
-raised-is : (n : ℕ) → n ≤ largest → raised n ≡ min largest (n + 1)
+raised-is : (n : ℕ) → n ≤ largestCount → raised n ≡ min largestCount (n + 1)
 raised-is n h =
-    branch (λ m. m ≡ min largest (n + 1)) (ltb n largest) (λ e. let l = ltb-true n largest e in omega arith) (λ e. let l = ltb-false n largest e in omega arith)
+    branch (λ m. m ≡ min largestCount (n + 1)) (ltb n largestCount) (λ e. let l = ltb-true n largestCount e in omega arith) (λ e. let l = ltb-false n largestCount e in omega arith)
 
 -- one more at a place is one more in all
 sum-set : (l : List ℕ) (i : ℕ) → i < length l → sum _+_ 0 (set l i (getD l i 0 + 1)) ≡ sum _+_ 0 l + 1
@@ -80,14 +79,14 @@ sum-set (x ∷ xs) (suc i) h = let e = sum-set xs i (le-of-suc-le-suc h) in omeg
 
 module _ (t : Tally) (fits : Fits t) (r : Answer) where
   -- each count
-  count-note : (p : ℕ) → p < places → count (note t r) p ≡ min largest (count t p + (if ofKind p r then 1 else 0))
+  count-note : (p : ℕ) → p < places → countAt (note t r) p ≡ min largestCount (countAt t p + (if ofKind p r then 1 else 0))
   unfolding note
   count-note p h =
       let l = fits .thirteen in
       let m = fits .small p h in
-      branch (λ x. count (note t r) p ≡ min largest (count t p + x)) (ofKind p r)
-      (λ e. rw (at-place p h r e, lt-ltb p places h) (getD-set-same (t .counts) p (raised (count t p)) 0 (omega arith) ∙ raised-is (count t p) m))
-      (λ e. branch (λ u. count u p ≡ min largest (count t p + 0)) (ltb (place r) places)
+      branch (λ x. countAt (note t r) p ≡ min largestCount (countAt t p + x)) (ofKind p r)
+      (λ e. rw (at-place p h r e, lt-ltb p places h) (getD-set-same (t .counts) p (raised (countAt t p)) 0 (omega arith) ∙ raised-is (countAt t p) m))
+      (λ e. branch (λ u. countAt u p ≡ min largestCount (countAt t p + 0)) (ltb (place r) places)
       (λ _. getD-set-other (t .counts) (place r) p _ 0 (λ q. true-false (sym (only-there p h r (sym q)) ∙ e)) ∙ omega arith)
       (λ _. omega arith))
 
@@ -100,7 +99,7 @@ module _ (t : Tally) (fits : Fits t) (r : Answer) where
       }
 
   -- all counts
-  total-note : (place r < places → count t (place r) < largest) → total (note t r) ≡ total t + (if isCounted r then 1 else 0)
+  total-note : (place r < places → countAt t (place r) < largestCount) → total (note t r) ≡ total t + (if isCounted r then 1 else 0)
   unfolding note
   total-note low =
       decide (ltb (place r) places)
@@ -121,16 +120,16 @@ add-up t fits (r ∷ rs) below =
     add-up (note t r) (fits-note t fits r) rs below
     ∙ omega (arith, total-note t fits r (λ h. omega (arith, each-count t fits (r ∷ rs) (place r) h, below (place r) h)))
 
-none-yet : (p : ℕ) → p < places → count empty p ≡ 0
+none-yet : (p : ℕ) → p < places → countAt emptyTally p ≡ 0
 none-yet p h = getD-replicate places p 0 0 h
 
-fits-empty : Fits empty
+fits-empty : Fits emptyTally
 fits-empty = record { thirteen = refl; small = λ p h. omega (arith, none-yet p h) }
 
 pub from-empty : FromEmpty
 unfolding sum
 from-empty =
     record {
-      each = λ rs below p h. omega (arith, each-count empty fits-empty rs p h, none-yet p h, below p h);
-      together = λ rs below. add-up empty fits-empty rs below ∙ omega arith;
+      each = λ rs below p h. omega (arith, each-count emptyTally fits-empty rs p h, none-yet p h, below p h);
+      together = λ rs below. add-up emptyTally fits-empty rs below ∙ omega arith;
     }

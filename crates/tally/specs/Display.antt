@@ -1,5 +1,4 @@
 -- What is shown of a reported packet (document 01, "Display, tally, capture program").
--- Assumes nothing.
 use mathlib.Core.Bool.{Bool}
 use mathlib.Core.List.{List, []}
 use mathlib.Core.Option.{some}
@@ -9,7 +8,7 @@ use lib.Dec.{leb}
 use lib.ListN.{length, take}
 use Rattle.fcs.specs.Notation.{if_then_else_}
 use Rattle.link.specs.Answers.{packet}
-use Rattle.link.specs.Receiver.{Receiving, receive}
+use Rattle.link.specs.Receiver.{ReceiverEnd, receive}
 use Rattle.link.specs.Runs.{packetIn}
 
 -- the first n octets of an area; of an area that has fewer, none
@@ -23,6 +22,6 @@ shown inSecond n first second = front n (if inSecond then second else first)
 -- Of every call of the receiver that answers Packet: what is shown, from the areas as that call left them, is the packet that the report
 -- stands for.
 abbrev pub ShowsThePacket : Type 0
-ShowsThePacket = (e : Receiving) (x : ℕ) (second : Bool) (n : ℕ)
+ShowsThePacket = (e : ReceiverEnd) (x : ℕ) (inSecond : Bool) (n : ℕ)
     → (let h = receive e x in
-    h .report ≡ packet second n → packetIn h ≡ some (shown second n (h .after .first) (h .after .second)))
+    h .report ≡ packet inSecond n → packetIn h ≡ some (shown inSecond n (h .after .first) (h .after .second)))

@@ -1,6 +1,5 @@
 -- What the counts come to (document 01, "Display, tally, capture program"), proved in proofs/Sums.antt. What is counted is said here apart
 -- from `place`, so that a place given to the wrong reports would not pass.
--- Assumes nothing.
 use mathlib.Core.Bool.{Bool, true, false, _&&_}
 use mathlib.Core.List.{List, [], _∷_, foldl, sum}
 use mathlib.Core.Path.{_≡_}
@@ -9,7 +8,7 @@ use lib.Dec.{leb, eqb}
 use lib.ListN.{length}
 use Rattle.fcs.specs.Notation.{if_then_else_}
 use Rattle.link.specs.Answers.{Answer, done, octet, idle, quiet, packet, held, refused}
-use Rattle.tally.specs.Counts.{Tally, places, largest, empty, count, note}
+use Rattle.tally.specs.Counts.{Tally, places, largestCount, emptyTally, countAt, note}
 
 -- reports noted, one after another
 abbrev pub noted : Tally → List Answer → Tally
@@ -20,9 +19,9 @@ abbrev pub total : Tally → ℕ
 total t = sum _+_ 0 (t .counts)
 
 -- how many of the reports pass a test
-abbrev pub number : (Answer → Bool) → List Answer → ℕ
-number test [] = 0
-number test (r ∷ rs) = (if test r then 1 else 0) + number test rs
+abbrev pub numberOf : (Answer → Bool) → List Answer → ℕ
+numberOf test [] = 0
+numberOf test (r ∷ rs) = (if test r then 1 else 0) + numberOf test rs
 
 -- The reports that raise a count: all but Quiet and the numbers outside 5 to 14.
 abbrev pub isCounted : Answer → Bool
@@ -30,7 +29,7 @@ isCounted done = false
 isCounted (octet x) = false
 isCounted idle = false
 isCounted quiet = false
-isCounted (packet second n) = true
+isCounted (packet inSecond n) = true
 isCounted (held n replaced) = true
 isCounted (refused n) = leb 5 n && leb n 14
 
@@ -41,30 +40,30 @@ ofKind p done = false
 ofKind p (octet x) = false
 ofKind p idle = false
 ofKind p quiet = false
-ofKind p (packet second n) = eqb p 0
+ofKind p (packet inSecond n) = eqb p 0
 ofKind p (held n replaced) = eqb p (if replaced then 2 else 1)
 ofKind p (refused n) = leb 3 p && eqb n (p + 2)
 
 -- a tally that the code can hold: thirteen counts, of 64 bits
 pub record Fits (t : Tally) : Type 0 where
   pub thirteen : length (t .counts) ≡ places
-  pub small : (p : ℕ) → p < places → count t p ≤ largest
+  pub small : (p : ℕ) → p < places → countAt t p ≤ largestCount
 
 -- Each count is what it was and the number of reports of its kind, or the largest if that is smaller.
 abbrev pub EachCount : Type 0
 EachCount = (t : Tally) → Fits t → (rs : List Answer) → (p : ℕ) → p < places
-    → count (noted t rs) p ≡ min largest (count t p + number (ofKind p) rs)
+    → countAt (noted t rs) p ≡ min largestCount (countAt t p + numberOf (ofKind p) rs)
 
 -- every count is below the largest
 abbrev pub Below : Tally → Type 0
-Below t = (p : ℕ) → p < places → count t p < largest
+Below t = (p : ℕ) → p < places → countAt t p < largestCount
 
 -- As long as no count is at the largest, their sum grows by one with each report that is counted, and with no other.
 abbrev pub AddUp : Type 0
-AddUp = (t : Tally) → Fits t → (rs : List Answer) → Below (noted t rs) → total (noted t rs) ≡ total t + number isCounted rs
+AddUp = (t : Tally) → Fits t → (rs : List Answer) → Below (noted t rs) → total (noted t rs) ≡ total t + numberOf isCounted rs
 
 -- So from the empty tally on, as long as no count is at the largest, each count is the number of reports of its kind, and all together are the
 -- number of reports that were counted.
 pub record FromEmpty : Type 0 where
-  pub each : (rs : List Answer) → Below (noted empty rs) → (p : ℕ) → p < places → count (noted empty rs) p ≡ number (ofKind p) rs
-  pub together : (rs : List Answer) → Below (noted empty rs) → total (noted empty rs) ≡ number isCounted rs
+  pub each : (rs : List Answer) → Below (noted emptyTally rs) → (p : ℕ) → p < places → countAt (noted emptyTally rs) p ≡ numberOf (ofKind p) rs
+  pub together : (rs : List Answer) → Below (noted emptyTally rs) → total (noted emptyTally rs) ≡ numberOf isCounted rs

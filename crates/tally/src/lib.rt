@@ -1,13 +1,13 @@
 // The display of a reported packet, and the tally of reports (document 01, "Display, tally, capture program").
 ghost use mathlib.Core.Path.{_≡_};
-ghost use Rattle.link.specs.Answers.{report};
+ghost use Rattle.link.specs.Answers.{reportAnswer};
 ghost use Rattle.tally.specs.Display.{front, shown};
-ghost use Rattle.tally.specs.Counts.{empty, place, raised, note};
+ghost use Rattle.tally.specs.Counts.{emptyTally, place, raised, note};
 use link::receiver::Report;
 
 // ---- display
 
-// The octets of a reported packet, as a part of whichever area took it: nothing is copied. in_second, n: the `second` and `length` of its
+// The octets of a reported packet, a part of the area that it is in: nothing is copied. in_second, n: the `second` and `length` of its
 // `Report::Packet`. A length beyond that area shows the area's empty beginning.
 pub fn shown<'a>(in_second: bool, n: u16, first: &'a [u8], second: &'a [u8]) -> &'a [u8]
     ensures { λ r. ⌜ now r ≡ shown in_second n (now (first .entry)) (now (second .entry)) ⌝ }
@@ -59,7 +59,7 @@ pub struct Tally {
 
 // All counts 0.
 pub fn empty() -> Tally
-    ensures { λ t. ⌜ t ≡ empty ⌝ }
+    ensures { λ t. ⌜ t ≡ emptyTally ⌝ }
 {
     Tally {
         counts: [0; COUNTS],
@@ -68,7 +68,7 @@ pub fn empty() -> Tally
 
 // Where a report is counted.
 fn place(r: Report) -> usize
-    ensures { λ p. ⌜ p ≡ place (report r) ⌝ }
+    ensures { λ p. ⌜ p ≡ place (reportAnswer r) ⌝ }
 {
     match r {
         Report::Quiet => COUNTS,
@@ -101,7 +101,7 @@ fn raised(n: u64) -> u64
 
 // A report noted: one count is raised, or none.
 pub fn note(t: Tally, r: Report) -> Tally
-    ensures { λ x. ⌜ x ≡ note t (report r) ⌝ }
+    ensures { λ x. ⌜ x ≡ note t (reportAnswer r) ⌝ }
 {
     let p = place(r);
     if COUNTS <= p {
@@ -116,7 +116,7 @@ pub fn note(t: Tally, r: Report) -> Tally
 
 // The same on a tally that is lent.
 pub fn note_in(t: &mut Tally, r: Report)
-    ensures { λ _. ⌜ now (t .exit) ≡ note (now (t .entry)) (report r) ⌝ }
+    ensures { λ _. ⌜ now (t .exit) ≡ note (now (t .entry)) (reportAnswer r) ⌝ }
 {
     *t = note(*t, r);
 }

@@ -1,5 +1,4 @@
 -- Nothing is left out of what is printed and counted.
--- Assumes nothing.
 use mathlib.Core.Path.{_≡_, refl, sym, ap, _∙_}
 use mathlib.Core.Bool.{Bool, true, false}
 use mathlib.Core.List.{List, [], _∷_, _++_, append-assoc, flatMap, flatten, foldl-append}
@@ -14,10 +13,10 @@ use lib.Seq.{take-append-seam, drop-append-seam}
 use Rattle.cobs.proofs.Tests.{branch}
 use Rattle.link.specs.Agreed.{agreed}
 use Rattle.link.specs.Answers.{Answer, done, octet, idle, quiet, packet, held, refused, isQuiet}
-use Rattle.link.specs.Receiver.{Receiving, Receive, areaOf, receive}
-use Rattle.link.specs.Runs.{receives, received}
+use Rattle.link.specs.Receiver.{ReceiverEnd, Receive, areaOf, receive}
+use Rattle.link.specs.Runs.{receives, received, notQuiet}
 use Rattle.link.proofs.Within.{Within, within, limit-is, most-is}
-use Rattle.reader.specs.NothingLost.{loud, reporting, reports}
+use Rattle.reader.specs.NothingLost.{notQuietCalls, reports}
 use Rattle.reader.proofs.NothingLost.{received-append, cuts}
 use Rattle.tally.specs.Counts.{note}
 use Rattle.tally.specs.Sums.{noted}
@@ -25,14 +24,14 @@ use Rattle.tally.proofs.Packet.{front-most}
 use Rattle.lines.specs.Lines.{Page, append, reportLine}
 use Rattle.lines.proofs.Append.{written, append-none, append-append, page-length}
 use Rattle.lines.proofs.Lengths.{report-most}
-use Rattle.transcript.specs.Transcript.{shownOf, lineOf, linesOf, longest, Transcript, further, printOn, print}
-use Rattle.transcript.specs.NothingLeftOut.{NothingLeftOut, Output, through, throughAll, Whole, AnyCutting, countAll, AllCounted}
+use Rattle.transcript.specs.Transcript.{shownOf, lineOf, linesOf, longestLine, Transcript, printedAfter, printOn, print}
+use Rattle.transcript.specs.NothingLeftOut.{NothingLeftOut, Output, printStretch, printStretches, AllLines, AllPrinted, countStretches, AllCounted}
 use Rattle.transcript.proofs.Printing.{quiet-line}
 
 -- ---- no line is longer than the longest
 
-fits : (settings : ℕ) (a : Answer) (e : Receiving) → Within (agreed settings) a e
-    → length (reportLine a (shownOf a (e .first) (e .second))) ≤ longest
+fits : (settings : ℕ) (a : Answer) (e : ReceiverEnd) → Within (agreed settings) a e
+    → length (reportLine a (shownOf a (e .first) (e .second))) ≤ longestLine
 fits s (packet second n) e w =
     let l : n ≤ 2048 = omega (arith, w .1, limit-is s) in
     omega (arith, report-most (packet second n) (shownOf (packet second n) (e .first) (e .second)) (omega arith), front-most n (areaOf second e))
@@ -43,38 +42,38 @@ fits s done e w = omega (arith, report-most done [] (omega arith))
 fits s (octet x) e w = omega (arith, report-most (octet x) [] (omega arith))
 fits s idle e w = omega (arith, report-most idle [] (omega arith))
 
-pub line-most : (e : Receiving) (x : ℕ) → length (lineOf (receive e x)) ≤ longest
+pub line-most : (e : ReceiverEnd) (x : ℕ) → length (lineOf (receive e x)) ≤ longestLine
 unfolding lineOf
 line-most e x = fits (e .state .settings) (receive e x .report) (receive e x .after) (within e x)
 
 -- ---- the line of the first call, and those of the others
 
-lines-by : (h : Receive) (hs : List Receive) (b : Bool) → isQuiet (h .report) ≡ b → linesOf (loud (h ∷ hs)) ≡ lineOf h ++ linesOf (loud hs)
-unfolding linesOf flatMap loud
+lines-by : (h : Receive) (hs : List Receive) (b : Bool) → isQuiet (h .report) ≡ b → linesOf (notQuiet (h ∷ hs)) ≡ lineOf h ++ linesOf (notQuiet hs)
+unfolding linesOf flatMap notQuiet
 lines-by h hs true q = simp (q, quiet-line h q)
 lines-by h hs false q = simp q
 
-lines-cons : (e : Receiving) (x : ℕ) (xs : List ℕ)
-    → linesOf (reporting e (x ∷ xs)) ≡ lineOf (receive e x) ++ linesOf (reporting (receive e x .after) xs)
+lines-cons : (e : ReceiverEnd) (x : ℕ) (xs : List ℕ)
+    → linesOf (notQuietCalls e (x ∷ xs)) ≡ lineOf (receive e x) ++ linesOf (notQuietCalls (receive e x .after) xs)
 unfolding receives
 lines-cons e x xs = lines-by (receive e x) (receives (receive e x .after) xs) (isQuiet (receive e x .report)) refl
 
 -- ---- octet by octet, from any page
 
-record Goes (e : Receiving) (xs : List ℕ) (p : Page) (t : Transcript) : Type 0 where
-  page : t .page ≡ append p (linesOf (reporting e (take (t .used) xs)))
-  room : p .filled + length (linesOf (reporting e (take (t .used) xs))) ≤ length (p .area)
+record Goes (e : ReceiverEnd) (xs : List ℕ) (p : Page) (t : Transcript) : Type 0 where
+  page : t .page ≡ append p (linesOf (notQuietCalls e (take (t .used) xs)))
+  room : p .filled + length (linesOf (notQuietCalls e (take (t .used) xs))) ≤ length (p .area)
   after : t .after ≡ received e (take (t .used) xs)
   most : t .used ≤ length xs
-  least : 0 < length xs → p .filled + longest ≤ length (p .area) → 1 ≤ t .used
-  stops : t .used < length xs → length (p .area) < t .page .filled + longest
+  least : 0 < length xs → p .filled + longestLine ≤ length (p .area) → 1 ≤ t .used
+  stops : t .used < length xs → length (p .area) < t .page .filled + longestLine
 
-stays : (e : Receiving) (xs : List ℕ) (p : Page) → p .filled ≤ length (p .area) → (0 < length xs → length (p .area) < p .filled + longest)
+stays : (e : ReceiverEnd) (xs : List ℕ) (p : Page) → p .filled ≤ length (p .area) → (0 < length xs → length (p .area) < p .filled + longestLine)
     → Goes e xs p (record { after = e; page = p; used = 0 })
-unfolding linesOf flatMap loud receives received
+unfolding linesOf flatMap notQuiet receives received
 stays e xs p h s = record { page = append-none p; room = omega arith; after = refl; most = omega arith; least = λ l r. absurd (omega (arith, s l)); stops = s }
 
-module _ (e : Receiving) (x : ℕ) (xs : List ℕ) (p : Page) (room : p .filled + longest ≤ length (p .area)) where
+module _ (e : ReceiverEnd) (x : ℕ) (xs : List ℕ) (p : Page) (room : p .filled + longestLine ≤ length (p .area)) where
   abbrev h : Receive
   h = receive e x
 
@@ -90,10 +89,10 @@ module _ (e : Receiving) (x : ℕ) (xs : List ℕ) (p : Page) (room : p .filled 
   q-within : q .filled ≤ length (q .area)
   q-within = omega (arith, q-filled, q-long, line-most e x)
 
-  one-line : (t : Transcript) → Goes (h .after) xs q t → Goes e (x ∷ xs) p (further 1 t)
+  one-line : (t : Transcript) → Goes (h .after) xs q t → Goes e (x ∷ xs) p (printedAfter 1 t)
   unfolding received
   one-line t k =
-      let ls = linesOf (reporting (h .after) (take (t .used) xs)) in
+      let ls = linesOf (notQuietCalls (h .after) (take (t .used) xs)) in
       let r : p .filled + length (lineOf h) + length ls ≤ length (p .area) = omega (arith, k .room, q-filled, q-long) in
       let c = lines-cons e x (take (t .used) xs) in
       rw (one-add (t .used))
@@ -106,13 +105,13 @@ module _ (e : Receiving) (x : ℕ) (xs : List ℕ) (p : Page) (room : p .filled 
         stops = λ l. omega (arith, k .stops (omega arith), q-long);
       })
 
-goes : (e : Receiving) (xs : List ℕ) (p : Page) → p .filled ≤ length (p .area) → Goes e xs p (printOn e xs p)
+goes : (e : ReceiverEnd) (xs : List ℕ) (p : Page) → p .filled ≤ length (p .area) → Goes e xs p (printOn e xs p)
 unfolding printOn
 goes e [] p h = stays e [] p h (λ l. absurd (omega arith))
 goes e (x ∷ xs) p h =
-    branch (Goes e (x ∷ xs) p) (ltb (length (p .area)) (p .filled + longest))
+    branch (Goes e (x ∷ xs) p) (ltb (length (p .area)) (p .filled + longestLine))
     (λ b. stays e (x ∷ xs) p h (λ _. ltb-true _ _ b))
-    (λ b. let room = ltb-false (length (p .area)) (p .filled + longest) b in
+    (λ b. let room = ltb-false (length (p .area)) (p .filled + longestLine) b in
     one-line e x xs p room _ (goes (receive e x .after) xs (append p (lineOf (receive e x))) (q-within e x xs p room)))
 
 -- ---- from the start of a page
@@ -121,7 +120,7 @@ pub nothing-left-out : NothingLeftOut
 nothing-left-out e xs page =
     let t = print e xs page in
     let k = goes e xs (record { area = page; filled = 0 }) (omega arith) in
-    let ls = linesOf (reporting e (take (t .used) xs)) in
+    let ls = linesOf (notQuietCalls e (take (t .used) xs)) in
     let w = k .page ∙ written page 0 ls (k .room) in
     let n : t .page .filled ≡ length ls = ap (λ (r : Page). r .filled) w ∙ zero-add (length ls) in
     let a : t .page .area ≡ ls ++ drop (length ls) page = ap (λ (r : Page). r .area) w ∙ rw (zero-add (length ls)) in
@@ -143,21 +142,21 @@ lines-append [] ks = refl
 lines-append (h ∷ hs) ks = rw (append-assoc (lineOf h)) (ap (λ (l : List ℕ). lineOf h ++ l) (lines-append hs ks))
 
 -- two stretches after each other
-joined : (e f : Receiving) (xs ys page t : List ℕ) (u : Output) → t ≡ linesOf (reporting e xs) → f ≡ received e xs → Whole f ys page u
-    → Whole e (xs ++ ys) page (record { text = t ++ u .text; after = u .after; page = u .page })
+joined : (e f : ReceiverEnd) (xs ys page t : List ℕ) (u : Output) → t ≡ linesOf (notQuietCalls e xs) → f ≡ received e xs → AllLines f ys page u
+    → AllLines e (xs ++ ys) page (record { text = t ++ u .text; after = u .after; page = u .page })
 joined e f xs ys page t u p q k =
     record {
-      text = rw (p, k .text, q, cuts e xs ys .calls) (sym (lines-append (reporting e xs) (reporting (received e xs) ys)));
+      text = rw (p, k .text, q, cuts e xs ys .calls) (sym (lines-append (notQuietCalls e xs) (notQuietCalls (received e xs) ys)));
       after = rw (k .after, q, received-append e xs ys);
       long = k .long;
     }
 
-none : (e : Receiving) (page : List ℕ) → Whole e [] page (record { text = []; after = e; page = page })
-unfolding linesOf flatMap loud receives received
+none : (e : ReceiverEnd) (page : List ℕ) → AllLines e [] page (record { text = []; after = e; page = page })
+unfolding linesOf flatMap notQuiet receives received
 none e page = record { text = refl; after = refl; long = refl }
 
-stretch : (n : ℕ) (e : Receiving) (xs page : List ℕ) → length xs ≤ n → longest ≤ length page → Whole e xs page (through n e xs page)
-unfolding through
+stretch : (n : ℕ) (e : ReceiverEnd) (xs page : List ℕ) → length xs ≤ n → longestLine ≤ length page → AllLines e xs page (printStretch n e xs page)
+unfolding printStretch
 stretch zero e [] page l r = none e page
 stretch zero e (x ∷ xs) page l r = absurd (omega arith)
 stretch (suc n) e [] page l r = none e page
@@ -170,19 +169,19 @@ stretch (suc n) e (x ∷ xs) page l r =
     let w = rw (take-append-drop (t .used) ys) at (joined e (t .after) (take (t .used) ys) (drop (t .used) ys) (t .page .area) _ _ (k .text) (k .after) m) in
     record { text = w .text; after = w .after; long = w .long ∙ k .long }
 
-pub any-cutting : AnyCutting
-unfolding throughAll flatten
-any-cutting e [] page r = none e page
-any-cutting e (xs ∷ xss) page r =
+pub all-printed : AllPrinted
+unfolding printStretches flatten
+all-printed e [] page r = none e page
+all-printed e (xs ∷ xss) page r =
     let k = stretch (length xs) e xs page (omega arith) r in
-    let m = any-cutting (through (length xs) e xs page .after) xss (through (length xs) e xs page .page) (omega (arith, k .long)) in
+    let m = all-printed (printStretch (length xs) e xs page .after) xss (printStretch (length xs) e xs page .page) (omega (arith, k .long)) in
     let j = joined e _ xs (flatten xss) _ _ _ (k .text) (k .after) m in
     record { text = j .text; after = j .after; long = j .long ∙ k .long }
 
 -- ---- a program that counts
 
 pub all-counted : AllCounted
-unfolding countAll flatten loud receives
+unfolding countStretches flatten notQuiet receives
 all-counted t e [] = refl
 all-counted t e (xs ∷ xss) =
     all-counted (noted t (reports e xs)) (received e xs) xss

@@ -1,12 +1,11 @@
 -- What a stretch of a line comes to as text (document 01, "Display, tally, capture program").
--- Assumes nothing.
 use mathlib.Core.List.{List, [], _∷_, flatMap}
 use Prim.Native.Nat.{ℕ, _+_}
 use lib.Dec.{ltb}
 use lib.ListN.{length}
 use Rattle.fcs.specs.Notation.{if_then_else_}
 use Rattle.link.specs.Answers.{Answer, done, octet, idle, quiet, packet, held, refused}
-use Rattle.link.specs.Receiver.{Receiving, Receive, receive}
+use Rattle.link.specs.Receiver.{ReceiverEnd, Receive, receive}
 use Rattle.tally.specs.Display.{shown}
 use Rattle.lines.specs.Lines.{Page, append, reportLine}
 
@@ -32,27 +31,27 @@ linesOf = flatMap lineOf
 -- ---- a page of them
 
 -- The most octets of a line: 3 for each octet of the largest packet, and 10.
-abbrev pub longest : ℕ
-longest = 6154
+abbrev pub longestLine : ℕ
+longestLine = 6154
 
 -- the receiver and its areas afterwards, the page, and how many octets were used
 pub record Transcript : Type 0 where
-  pub after : Receiving
+  pub after : ReceiverEnd
   pub page : Page
   pub used : ℕ
 
--- n octets were used before
-abbrev pub further : ℕ → Transcript → Transcript
-further n t = record { after = t .after; page = t .page; used = n + t .used }
+-- what is printed behind n octets that were used already
+abbrev pub printedAfter : ℕ → Transcript → Transcript
+printedAfter n t = record { after = t .after; page = t .page; used = n + t .used }
 
 -- The octets, one after another, each to the receiver as the call before left it, and the line of each call after those on the page, until
 -- the octets are used up or the page has no room for the longest line.
-unfoldable pub printOn : Receiving → List ℕ → Page → Transcript
+unfoldable pub printOn : ReceiverEnd → List ℕ → Page → Transcript
 printOn e [] p = record { after = e; page = p; used = 0 }
 printOn e (x ∷ xs) p =
-    if ltb (length (p .area)) (p .filled + longest) then record { after = e; page = p; used = 0 }
-    else (let h = receive e x in further 1 (printOn (h .after) xs (append p (lineOf h))))
+    if ltb (length (p .area)) (p .filled + longestLine) then record { after = e; page = p; used = 0 }
+    else (let h = receive e x in printedAfter 1 (printOn (h .after) xs (append p (lineOf h))))
 
 -- from the start of a page
-abbrev pub print : Receiving → List ℕ → List ℕ → Transcript
+abbrev pub print : ReceiverEnd → List ℕ → List ℕ → Transcript
 print e xs page = printOn e xs (record { area = page; filled = 0 })

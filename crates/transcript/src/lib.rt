@@ -3,15 +3,18 @@
 ghost use mathlib.Core.Path.{_≡_};
 ghost use Prim.Native.Nat.{min, _/_, _≤_};
 ghost use lib.ListN.{length};
-ghost use Rattle.link.specs.Answers.{report};
+ghost use Rattle.link.specs.Answers.{reportAnswer};
 ghost use Rattle.link.specs.Runs.{received};
 ghost use Rattle.reader.specs.NothingLost.{reports};
 ghost use Rattle.tally.specs.Sums.{noted};
 ghost use Rattle.lines.specs.Lines.{append, reportLine};
-ghost use Rattle.transcript.specs.Transcript.{shownOf, longest, print};
+ghost use Rattle.transcript.specs.Transcript.{shownOf, longestLine, print};
 use link::receiver::Receiver;
 use link::receiver::Report;
 use tally::Tally;
+
+// The settings that a capture is read with: ZXE and PRE are both on.
+pub const SETTINGS: u8 = 0x03;
 
 // ---- lines
 
@@ -27,7 +30,7 @@ pub struct Printed {
 
 // The octets of a reported packet; of any other report none.
 fn octets<'a>(given: Report, first: &'a [u8], second: &'a [u8]) -> &'a [u8]
-    ensures { λ r. ⌜ now r ≡ shownOf (report given) (now (first .entry)) (now (second .entry)) ⌝ }
+    ensures { λ r. ⌜ now r ≡ shownOf (reportAnswer given) (now (first .entry)) (now (second .entry)) ⌝ }
 {
     match given {
         Report::Packet {
@@ -50,7 +53,7 @@ fn line<'a>(
 ) -> usize
     ensures { λ r. ⌜ record { area = now (page .exit); filled = r }
         ≡ append (record { area = now (page .entry); filled = filled })
-        (reportLine (report given) (shownOf (report given) (now (first .entry)) (now (second .entry)))) ⌝ }
+        (reportLine (reportAnswer given) (shownOf (reportAnswer given) (now (first .entry)) (now (second .entry)))) ⌝ }
 {
     lines::report(given, octets(given, first, second), page, filled)
 }
@@ -75,7 +78,7 @@ pub fn print(
         (now (page .entry)) ⌝ }
     ensures { λ r. ⌜ (r .used ≤ length (now (octets .entry)))
         × (r .filled ≤ length (now (page .entry)))
-        × (min 1 (min (length (now (octets .entry))) (length (now (page .entry)) / longest)) ≤ r .used) ⌝ }
+        × (min 1 (min (length (now (octets .entry))) (length (now (page .entry)) / longestLine)) ≤ r .used) ⌝ }
 {
     let mut end = state;
     let mut filled = 0usize;

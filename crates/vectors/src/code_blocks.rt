@@ -79,7 +79,7 @@ pub(crate) fn answer(row: Row, octets: &[u8]) -> Answers {
 
 fn code(code: u8, zxe: bool) -> Answers {
     match cobs::look_up(code, zxe) {
-        Meaning::Counts { octets, zeros } => push_three(none(), 0, octets, zeros),
+        Meaning::InTable { nonzeros, zeros } => push_three(none(), 0, nonzeros, zeros),
         Meaning::NotAgreed => push_three(none(), 6, 0, 0),
         Meaning::NoCode => push_three(none(), 7, 0, 0),
     }
@@ -87,5 +87,5 @@ fn code(code: u8, zxe: bool) -> Answers {
 
 fn choice(rest: &[u8], zxe: bool) -> Answers {
     let chosen = cobs::choose(rest, zxe);
-    push_three(none(), chosen.code, chosen.octets, chosen.zeros)
+    push_three(none(), chosen.code, chosen.nonzeros, chosen.zeros)
 }

@@ -1,5 +1,4 @@
 -- Writing on, octet by octet, at the numbers of the loop.
--- Assumes nothing.
 use mathlib.Core.Path.{_≡_, refl, sym, ap, _∙_}
 use mathlib.Core.Bool.{true, false}
 use mathlib.Core.Logic.{⊎-elim}
@@ -21,18 +20,19 @@ use Rattle.link.proofs.sender.NextAnswer.{enum}
 use Rattle.link.specs.declared.sender.Sender.{Sender}
 use Rattle.link.specs.declared.sender.Lane.{Lane}
 use Rattle.link.specs.declared.sender.Lane.the-variants.{Low as low, High as high}
-use Rattle.link.specs.Sender.{Sending, Next, area, queue, next, seen}
-use Rattle.link.proofs.WriteOn.{Lent, octet-lent, sent, Stretch, first, rest, inside, plain}
-use Rattle.writer.specs.Writing.{Wrote, nothing, before, answered, writeOn, further}
+use Rattle.link.specs.Sender.{SenderEnd, Next, laneArea, laneState, next, seen}
+use Rattle.link.specs.SenderParts.{SenderReady}
+use Rattle.link.proofs.WriteOn.{octet-ready, sent, Stretch, first, rest, inside, plain}
+use Rattle.writer.specs.Writing.{Wrote, writesNothing, octetFirst, byAnswer, writeOn, fromPlace}
 
 -- ---- a line with its first i octets filled
 
 -- nothing more is written
-pub stays : (i : ℕ) (line : List ℕ) (s : Sender) → further i line (nothing s) ≡ record { state = s; line = line; filled = i }
+pub stays : (i : ℕ) (line : List ℕ) (s : Sender) → fromPlace i line (writesNothing s) ≡ record { state = s; line = line; filled = i }
 stays i line s = simp (add-zero, append-nil, take-append-drop)
 
 -- one octet more
-pub one-more : (i : ℕ) (line : List ℕ) (x : ℕ) (w : Wrote) → i < length line → further i line (before x w) ≡ further (i + 1) (set line i x) w
+pub one-more : (i : ℕ) (line : List ℕ) (x : ℕ) (w : Wrote) → i < length line → fromPlace i line (octetFirst x w) ≡ fromPlace (i + 1) (set line i x) w
 one-more i line x w l =
     let n : i + suc (length (w .octets)) ≡ suc i + length (w .octets) = omega arith in
     let k : i < suc i + length (w .octets) = omega arith in
@@ -41,41 +41,41 @@ one-more i line x w l =
 -- ---- the loop
 
 -- a sender after a call, with the areas as they were
-abbrev with : Sender → Sending → Sending
+abbrev with : Sender → SenderEnd → SenderEnd
 with s e = record { state = s; low = e .low; high = e .high }
 
-pub ends : (e : Sending) (line : List ℕ) (i : ℕ) → length line ≤ i
-    → further i line (writeOn (length line - i) e) ≡ record { state = e .state; line = line; filled = i }
+pub ends : (e : SenderEnd) (line : List ℕ) (i : ℕ) → length line ≤ i
+    → fromPlace i line (writeOn (length line - i) e) ≡ record { state = e .state; line = line; filled = i }
 unfolding writeOn
 ends e line i l = let z : length line - i ≡ 0 = omega arith in rw z (stays i line (e .state))
 
 -- after an octet the sender is in bounds, and its areas are long enough
-pub lent : (e : Sending) (a : NextAnswer) (t : Sender) → record { answer = nextAnswer a; state = t } ≡ seen (next e) → (x : ℕ) → a ≡ Octet x → Lent (with t e)
-lent e a t p x q = octet-lent e x t (rw q at p)
+pub ready-after : (e : SenderEnd) (a : NextAnswer) (t : Sender) → record { answer = nextAnswer a; state = t } ≡ seen (next e) → (x : ℕ) → a ≡ Octet x → SenderReady (with t e)
+ready-after e a t p x q = octet-ready e x t (rw q at p)
 
 -- by the answer of a call
-module _ (e : Sending) (line : List ℕ) (i : ℕ) (l : i < length line) (a : NextAnswer) (t : Sender) (p : record { answer = nextAnswer a; state = t } ≡ seen (next e)) where
+module _ (e : SenderEnd) (line : List ℕ) (i : ℕ) (l : i < length line) (a : NextAnswer) (t : Sender) (p : record { answer = nextAnswer a; state = t } ≡ seen (next e)) where
   room : length line - i ≡ suc (length line - (i + 1))
   room = omega arith
 
-  written : writeOn (length line - i) e ≡ answered (nextAnswer a) (e .state) t (writeOn (length line - (i + 1)) (with t e))
+  written : writeOn (length line - i) e ≡ byAnswer (nextAnswer a) (e .state) t (writeOn (length line - (i + 1)) (with t e))
   unfolding writeOn
-  written = rw room (ap (λ (h : Next). answered (h .answer) (e .state) (h .state) (writeOn (length line - (i + 1)) (with (h .state) e))) (sym p))
+  written = rw room (ap (λ (h : Next). byAnswer (h .answer) (e .state) (h .state) (writeOn (length line - (i + 1)) (with (h .state) e))) (sym p))
 
   pub goes-on : (x : ℕ) → a ≡ Octet x → eqb x flag ≡ false
-      → further i line (writeOn (length line - i) e) ≡ further (i + 1) (set line i x) (writeOn (length (set line i x) - (i + 1)) (with t e))
+      → fromPlace i line (writeOn (length line - i) e) ≡ fromPlace (i + 1) (set line i x) (writeOn (length (set line i x) - (i + 1)) (with t e))
   goes-on x q f = rw (length-set, written, q, f) (one-more i line x _ l)
 
   pub at-flag : (x : ℕ) → a ≡ Octet x → eqb x flag ≡ true
-      → further i line (writeOn (length line - i) e) ≡ record { state = t; line = set line i x; filled = i + 1 }
+      → fromPlace i line (writeOn (length line - i) e) ≡ record { state = t; line = set line i x; filled = i + 1 }
   at-flag x q f = rw (written, q, f) (one-more i line x _ l ∙ stays (i + 1) (set line i x) t)
 
   -- the second kind of answer or the third
-  pub stops : OneOf (1 ∷ 2 ∷ []) (tagOf (declared enum) a) → further i line (writeOn (length line - i) e) ≡ record { state = e .state; line = line; filled = i }
+  pub stops : OneOf (1 ∷ 2 ∷ []) (tagOf (declared enum) a) → fromPlace i line (writeOn (length line - i) e) ≡ record { state = e .state; line = line; filled = i }
   stops k = rw (written, other a k) (stays i line (e .state))
     where
       other : (b : NextAnswer) → OneOf (1 ∷ 2 ∷ []) (tagOf (declared enum) b)
-          → answered (nextAnswer b) (e .state) t (writeOn (length line - (i + 1)) (with t e)) ≡ nothing (e .state)
+          → byAnswer (nextAnswer b) (e .state) t (writeOn (length line - (i + 1)) (with t e)) ≡ writesNothing (e .state)
       other (Octet x) k = ⊎-elim (λ z. absurd (omega (arith, z))) (λ z. absurd (omega (arith, z))) k
       other Idle k = refl
       other (Refused n) k = refl
@@ -101,32 +101,32 @@ sent-suc n high s =
     rw (a, b)
 
 -- the octets of the stretch
-abbrev data·of : ℕ → Lane → Sending → List ℕ
-data·of n l e = take n (map toLine (drop (queue l (e .state) .position) (area l e)))
+abbrev data·of : ℕ → Lane → SenderEnd → List ℕ
+data·of n l e = take n (map toLine (drop (laneState l (e .state) .position) (laneArea l e)))
 
-data-suc : (n : ℕ) (l : Lane) (e : Sending) → queue l (e .state) .position < length (area l e)
-    → data·of (suc n) l e ≡ toLine (getD (area l e) (queue l (e .state) .position) 0) ∷ data·of n l (with (sent 1 l (e .state)) e)
+data-suc : (n : ℕ) (l : Lane) (e : SenderEnd) → laneState l (e .state) .position < length (laneArea l e)
+    → data·of (suc n) l e ≡ toLine (getD (laneArea l e) (laneState l (e .state) .position) 0) ∷ data·of n l (with (sent 1 l (e .state)) e)
 data-suc n low e h = rw (add-one, drop-cons (e .low) (e .state .low .position) 0)
 data-suc n high e h = rw (add-one, drop-cons (e .high) (e .state .high .position) 0)
 
-no-flag : (x : ℕ) (s t : Sender) (w : Wrote) → eqb x flag ≡ false → answered (octet x) s t w ≡ before x w
+no-flag : (x : ℕ) (s t : Sender) (w : Wrote) → eqb x flag ≡ false → byAnswer (octet x) s t w ≡ octetFirst x w
 no-flag x s t w f = rw f
 
-writes : (n m : ℕ) (l : Lane) (e : Sending) → Stretch l n e → writeOn (n + m) e ≡ ahead (data·of n l e) (writeOn m (with (sent n l (e .state)) e))
+writes : (n m : ℕ) (l : Lane) (e : SenderEnd) → Stretch l n e → writeOn (n + m) e ≡ ahead (data·of n l e) (writeOn m (with (sent n l (e .state)) e))
 unfolding writeOn
 writes zero m l e h = rw (zero-add, sent-zero l (e .state))
 writes (suc n) m l e h =
     let s = e .state in
-    let x = toLine (getD (area l e) (queue l s .position) 0) in
+    let x = toLine (getD (laneArea l e) (laneState l s .position) 0) in
     let t = sent 1 l s in
     let k : suc n + m ≡ suc (n + m) = omega arith in
     rw (k, data-suc n l e (inside n e l h), ← sent-suc n l s)
-    (ap (λ (q : Next). answered (q .answer) s (q .state) (writeOn (n + m) (with (q .state) e))) (sym (first n e l h))
+    (ap (λ (q : Next). byAnswer (q .answer) s (q .state) (writeOn (n + m) (with (q .state) e))) (sym (first n e l h))
     ∙ no-flag x s t _ (plain _)
-    ∙ ap (before x) (writes n m l (with t e) (rest n e l h)))
+    ∙ ap (octetFirst x) (writes n m l (with t e) (rest n e l h)))
 
 pastes : (at n : ℕ) (line xs : List ℕ) (w : Wrote) → at + n ≤ length line → n ≤ length xs
-    → further at line (ahead (take n xs) w) ≡ further (at + n) (paste line at xs n) w
+    → fromPlace at line (ahead (take n xs) w) ≡ fromPlace (at + n) (paste line at xs n) w
 pastes at n line xs w l k =
     let o = w .octets in
     let a : at ≤ length line = omega arith in
@@ -134,12 +134,12 @@ pastes at n line xs w l k =
     rw (length-append (take n xs) o, length-take-le n xs k, c, take-paste line at xs n a k, ← drop-drop (length o) (at + n) (paste line at xs n), drop-paste line at xs n a k, drop-drop, ← append-assoc)
 
 -- a stretch of n octets on the line
-pub stretches : (l : Lane) (n : ℕ) (e : Sending) (line : List ℕ) (at : ℕ) → Stretch l n e → at + n ≤ length line → queue l (e .state) .position + n ≤ length (area l e)
-    → (let d = paste line at (map toLine (drop (queue l (e .state) .position) (area l e))) n in
-    further at line (writeOn (length line - at) e) ≡ further (at + n) d (writeOn (length d - (at + n)) (with (sent n l (e .state)) e)))
+pub stretches : (l : Lane) (n : ℕ) (e : SenderEnd) (line : List ℕ) (at : ℕ) → Stretch l n e → at + n ≤ length line → laneState l (e .state) .position + n ≤ length (laneArea l e)
+    → (let d = paste line at (map toLine (drop (laneState l (e .state) .position) (laneArea l e))) n in
+    fromPlace at line (writeOn (length line - at) e) ≡ fromPlace (at + n) d (writeOn (length d - (at + n)) (with (sent n l (e .state)) e)))
 stretches l n e line at h k j =
-    let xs = map toLine (drop (queue l (e .state) .position) (area l e)) in
-    let i : n ≤ length xs = rw (length-map (drop (queue l (e .state) .position) (area l e)) toLine, length-drop) (omega arith) in
+    let xs = map toLine (drop (laneState l (e .state) .position) (laneArea l e)) in
+    let i : n ≤ length xs = rw (length-map (drop (laneState l (e .state) .position) (laneArea l e)) toLine, length-drop) (omega arith) in
     let r : length line - at ≡ n + (length line - (at + n)) = omega arith in
     rw (length-paste line at xs n k i, r, writes n (length line - (at + n)) l e h) (pastes at n line xs _ k i)
 

@@ -1,5 +1,4 @@
 -- Writing on: a sender's next octets go on the line, up to and with the first flag.
--- Assumes nothing.
 use mathlib.Core.List.{List, [], _∷_, _++_}
 use Prim.Native.Nat.{ℕ, zero, suc, _+_}
 use lib.Dec.{eqb}
@@ -8,37 +7,37 @@ use Rattle.fcs.specs.Notation.{if_then_else_}
 use Rattle.cobs.specs.CodeBlocks.{flag}
 use Rattle.link.specs.Answers.{Answer, done, octet, idle, quiet, packet, held, refused}
 use Rattle.link.specs.declared.sender.Sender.{Sender}
-use Rattle.link.specs.Sender.{Sending, next, seen}
+use Rattle.link.specs.Sender.{SenderEnd, next, seen}
 
 -- the octets written, and the sender after them
 pub record Wrote : Type 0 where
   pub octets : List ℕ
   pub state : Sender
 
-abbrev pub nothing : Sender → Wrote
-nothing s = record { octets = []; state = s }
+abbrev pub writesNothing : Sender → Wrote
+writesNothing s = record { octets = []; state = s }
 
 -- an octet in front of the rest
-abbrev pub before : ℕ → Wrote → Wrote
-before x w = record { octets = x ∷ w .octets; state = w .state }
+abbrev pub octetFirst : ℕ → Wrote → Wrote
+octetFirst x w = record { octets = x ∷ w .octets; state = w .state }
 
 -- by the answer of a call that took the sender from s to t: the flag is the last octet, another is followed by the rest; any other answer
 -- puts nothing on the line, and the call does not count
-abbrev pub answered : Answer → Sender → Sender → Wrote → Wrote
-answered (octet x) s t rest = before x (if eqb x flag then nothing t else rest)
-answered done s t rest = nothing s
-answered idle s t rest = nothing s
-answered quiet s t rest = nothing s
-answered (packet second n) s t rest = nothing s
-answered (held n replaced) s t rest = nothing s
-answered (refused n) s t rest = nothing s
+abbrev pub byAnswer : Answer → Sender → Sender → Wrote → Wrote
+byAnswer (octet x) s t rest = octetFirst x (if eqb x flag then writesNothing t else rest)
+byAnswer done s t rest = writesNothing s
+byAnswer idle s t rest = writesNothing s
+byAnswer quiet s t rest = writesNothing s
+byAnswer (packet inSecond n) s t rest = writesNothing s
+byAnswer (held n replaced) s t rest = writesNothing s
+byAnswer (refused n) s t rest = writesNothing s
 
 -- with room for n octets
-unfoldable pub writeOn : ℕ → Sending → Wrote
-writeOn zero e = nothing (e .state)
+unfoldable pub writeOn : ℕ → SenderEnd → Wrote
+writeOn zero e = writesNothing (e .state)
 writeOn (suc n) e =
     let h = seen (next e) in
-    answered (h .answer) (e .state) (h .state) (writeOn n (record { state = h .state; low = e .low; high = e .high }))
+    byAnswer (h .answer) (e .state) (h .state) (writeOn n (record { state = h .state; low = e .low; high = e .high }))
 
 -- a line, how many of its octets are filled, and the sender after them
 pub record Filled : Type 0 where
@@ -51,5 +50,5 @@ abbrev pub onto : List ℕ → Wrote → Filled
 onto line w = record { state = w .state; line = w .octets ++ drop (length (w .octets)) line; filled = length (w .octets) }
 
 -- the octets behind the first i of a line
-abbrev pub further : ℕ → List ℕ → Wrote → Filled
-further i line w = record { state = w .state; line = take i line ++ w .octets ++ drop (i + length (w .octets)) line; filled = i + length (w .octets) }
+abbrev pub fromPlace : ℕ → List ℕ → Wrote → Filled
+fromPlace i line w = record { state = w .state; line = take i line ++ w .octets ++ drop (i + length (w .octets)) line; filled = i + length (w .octets) }

@@ -5,15 +5,15 @@ ghost use Prim.Native.Nat.{_+_, _-_, _≤_};
 ghost use lib.ListN.{length, drop};
 ghost use lib.Seq.{paste};
 ghost use Rattle.cobs.specs.CodeBlocks.{toLine};
-ghost use Rattle.link.proofs.WriteOn.{Lent};
-ghost use Rattle.writer.specs.Writing.{writeOn, onto, further};
+ghost use Rattle.link.specs.SenderParts.{SenderReady};
+ghost use Rattle.writer.specs.Writing.{writeOn, onto, fromPlace};
 use link::sender::Lane;
 use link::sender::NextAnswer;
 use link::sender::OnLine;
 use link::sender::Sender;
 
 // How far a line was filled, and the sender after it.
-pub struct Written {
+pub struct FilledLine {
     pub state: Sender,
     pub filled: usize,
 }
@@ -30,45 +30,35 @@ fn copy(area: &[u8], from: usize, n: usize, line: &mut [u8], at: usize)
     }
 }
 
-// The lesser of two numbers.
-fn least(a: u8, b: usize) -> u8
-    ensures { λ r. ⌜ (r ≤ a) × (r ≤ b) ⌝ }
-{
-    if (a as usize) < b {
-        return a;
-    }
-    b as u8
-}
-
 // Writes on at a place within a block, as far as it is data and nothing breaks it off.
-fn stretch(state: Sender, low: &[u8], high: &[u8], line: &mut [u8], at: usize) -> Written
-    requires { ⌜ Lent (record { state = state; low = now low; high = now high }) × (at ≤ length (now line)) ⌝ }
-    ensures { λ r. ⌜ further at (now (line .entry)) (writeOn (length (now (line .entry)) - at) (record { state = state; low = now (low .entry); high = now (high .entry) }))
-        ≡ further (r .filled) (now (line .exit)) (writeOn (length (now (line .exit)) - r .filled) (record { state = r .state; low = now (low .entry); high = now (high .entry) })) ⌝ }
+fn stretch(state: Sender, low: &[u8], high: &[u8], line: &mut [u8], at: usize) -> FilledLine
+    requires { ⌜ SenderReady (record { state = state; low = now low; high = now high }) × (at ≤ length (now line)) ⌝ }
+    ensures { λ r. ⌜ fromPlace at (now (line .entry)) (writeOn (length (now (line .entry)) - at) (record { state = state; low = now (low .entry); high = now (high .entry) }))
+        ≡ fromPlace (r .filled) (now (line .exit)) (writeOn (length (now (line .exit)) - r .filled) (record { state = r .state; low = now (low .entry); high = now (high .entry) })) ⌝ }
     ensures { λ r. ⌜ (at ≤ r .filled) × (r .filled ≤ length (now (line .exit))) ⌝ }
 {
     let on = state.on;
     let left = state.left;
     if left < 2 {
-        return Written { state, filled: at };
+        return FilledLine { state, filled: at };
     }
-    let OnLine::Sends(lane) = on else {
-        return Written { state, filled: at };
+    let OnLine::Sending(lane) = on else {
+        return FilledLine { state, filled: at };
     };
     // The last data octet also covers the block's zeros: it is left to next_octet.
-    let n = least(left - 1, line.len() - at);
+    let n = cobs::lesser(left as usize - 1, line.len() - at) as u8;
     let filled = at + n as usize;
     let mut next = state;
     next.left = left - n;
     match lane {
         Lane::Low => {
             if state.high.length != 0 {
-                return Written { state, filled: at };
+                return FilledLine { state, filled: at };
             }
             copy(low, state.low.position as usize, n as usize, line, at);
             let position = state.low.position + n as u16;
             next.low.position = position;
-            Written {
+            FilledLine {
                 state: next,
                 filled,
             }
@@ -77,7 +67,7 @@ fn stretch(state: Sender, low: &[u8], high: &[u8], line: &mut [u8], at: usize) -
             copy(high, state.high.position as usize, n as usize, line, at);
             let position = state.high.position + n as u16;
             next.high.position = position;
-            Written {
+            FilledLine {
                 state: next,
                 filled,
             }
@@ -87,7 +77,7 @@ fn stretch(state: Sender, low: &[u8], high: &[u8], line: &mut [u8], at: usize) -
 
 // Writes a sender's next octets on the line, from its start, up to and with the first flag; it stops before the first call that is not
 // answered by an octet, and at the line's end.
-pub fn write_on(state: Sender, low: &[u8], high: &[u8], line: &mut [u8]) -> Written
+pub fn write_on(state: Sender, low: &[u8], high: &[u8], line: &mut [u8]) -> FilledLine
     ensures { λ r. ⌜ record { state = r .state; line = now (line .exit); filled = r .filled }
         ≡ onto (now (line .entry)) (writeOn (length (now (line .entry))) (record { state = state; low = now (low .entry); high = now (high .entry) })) ⌝ }
     ensures { λ r. ⌜ r .filled ≤ length (now (line .entry)) ⌝ }
@@ -98,7 +88,7 @@ pub fn write_on(state: Sender, low: &[u8], high: &[u8], line: &mut [u8]) -> Writ
         let sent = end.next_octet(low, high);
         let answer = sent.answer;
         let NextAnswer::Octet(octet) = answer else {
-            return Written {
+            return FilledLine {
                 state: end,
                 filled: i,
             };
@@ -109,11 +99,11 @@ pub fn write_on(state: Sender, low: &[u8], high: &[u8], line: &mut [u8]) -> Writ
         if octet == cobs::FLAG {
             break;
         }
-        let further = stretch(end, low, high, line, i);
-        end = further.state;
-        i = further.filled;
+        let stretched = stretch(end, low, high, line, i);
+        end = stretched.state;
+        i = stretched.filled;
     }
-    Written {
+    FilledLine {
         state: end,
         filled: i,
     }

@@ -1,5 +1,4 @@
 -- `capture::print` is safe and ends.
--- Assumes nothing.
 use Rattle.capture.proofs.print.Statement.{statement}
 use Rattle.capture.proofs.print.Tie as tie
 use borrow.Author.Needs.{needs}

@@ -1,5 +1,4 @@
 -- `capture::write` is safe and ends: each page uses an octet at least.
--- Assumes nothing.
 use Prim.Native.Nat.{_-_, _≤_}
 use Rattle.capture.proofs.write.Statement.{statement}
 use Rattle.capture.proofs.write.Tie as tie

@@ -1,5 +1,4 @@
 -- `cobs::choose` meets its contract. Where the ways meet, the test that none of them passed is false.
--- Assumes nothing.
 use mathlib.Core.Path.{_≡_, sym, ap, _∙_}
 use mathlib.Core.Bool.{true, false, _&&_}
 use mathlib.Core.Logic.{⊎-elim}
@@ -9,7 +8,7 @@ use borrow.Author.Needs.{needs}
 use borrow.Author.Tests.{leb-true, eq-eqb, ne-eqb, le-leb, lt-leb}
 use lib.Dec.{leb, eqb}
 use lib.ListN.{length, take, drop}
-use Rattle.cobs.specs.CodeBlocks.{withPhantom, zeros, choice, isZero, nonZero}
+use Rattle.cobs.specs.CodeBlocks.{withPhantom, leadingZeros, choice, isZero, isNonzero}
 use Rattle.cobs.proofs.Tests.{and-left, and-right}
 use Rattle.cobs.proofs.Leading.{at-most}
 use Rattle.cobs.proofs.Phantom.{nonzeros-within, rest-of}
@@ -31,7 +30,7 @@ returns c = simp (c .before .before .if1 .taken, sym (c .before .count-zeros .en
 count-nonzeros-requires : tie.Need-count-nonzeros-requires
 count-nonzeros-requires c κs = search needs
 
-no-run : (c : tie.Joined1) → (c .before .before .args .zxe && leb 3 (zeros 15 (withPhantom (c .before .before .args .rest .now)))) ≡ false
+no-run : (c : tie.Joined1) → (c .before .before .args .zxe && leb 3 (leadingZeros 15 (withPhantom (c .before .before .args .rest .now)))) ≡ false
 no-run c = ⊎-elim (λ w. rw (w .0 .taken, ← (w .1 .ensures)) (lt-leb _ _ (w .2 .left))) (λ w. rw (w .left)) (c .if1 .came)
 
 returns-2 : tie.Need-returns-2
@@ -73,8 +72,8 @@ add-code-2 c =
 behind : (c : tie.After-count-nonzeros)
     → (let rest = c .before .before .before .args .rest .now in
     let k = c .count-nonzeros .result in
-    zeros 2 (withPhantom (take (length rest - k) (drop k rest))) ≡ zeros 2 (drop k (withPhantom rest)))
-behind c = ap (zeros 2) (sym (rest-of (c .before .before .before .args .rest .now) (c .count-nonzeros .result) (inside c)))
+    leadingZeros 2 (withPhantom (take (length rest - k) (drop k rest))) ≡ leadingZeros 2 (drop k (withPhantom rest)))
+behind c = ap (leadingZeros 2) (sym (rest-of (c .before .before .before .args .rest .now) (c .count-nonzeros .result) (inside c)))
 
 returns-3 : tie.Need-returns-3
 unfolding choice
@@ -94,14 +93,14 @@ returns-3 c =
 no-pair : (c : tie.Joined4)
     → (let a = c .before .before .before .before .before .args in
     let k = c .before .before .count-nonzeros .result in
-    (a .zxe && leb k 30 && eqb (zeros 2 (drop k (withPhantom (a .rest .now)))) 2) ≡ false)
+    (a .zxe && leb k 30 && eqb (leadingZeros 2 (drop k (withPhantom (a .rest .now)))) 2) ≡ false)
 no-pair c =
     ⊎-elim (λ w. rw (w .0 .taken, ← (w .2 .ensures ∙ behind (c .before .before))) (ne-eqb _ _ (w .3 .left))) (λ w. rw (w .left)) (c .if4 .came)
 
 add-code-3 : tie.Need-add-code-3
 add-code-3 c =
     let n = c .before .before in
-    record { fits = omega (arith, n .count-nonzeros .ensures, at-most nonZero 207 (withPhantom (n .before .before .before .args .rest .now))) }
+    record { fits = omega (arith, n .count-nonzeros .ensures, at-most isNonzero 207 (withPhantom (n .before .before .before .args .rest .now))) }
 
 returns-4 : tie.Need-returns-4
 unfolding choice

@@ -1,12 +1,11 @@
 -- `cobs::count_zeros` meets its contract. The loop's invariant: i and what is counted from there on make up the count.
--- Assumes nothing.
 use mathlib.Core.Path.{_≡_}
 use mathlib.Core.Logic.{⊎-elim}
 use Prim.Native.Nat.{_+_, _-_, _≤_}
 use native.Mathlib.Nat.{zero-add, sub-zero}
 use native.Mathlib.Omega.{arith}
 use lib.ListN.{length, drop}
-use Rattle.cobs.specs.CodeBlocks.{withPhantom, zeros, isZero}
+use Rattle.cobs.specs.CodeBlocks.{withPhantom, leadingZeros, isZero}
 use Rattle.cobs.proofs.Leading.{at-most, limit}
 use Rattle.cobs.proofs.Phantom.{zero-turn, zero-stop, zero-phantom}
 use Rattle.cobs.proofs.count_zeros.Statement.{statement}
@@ -14,7 +13,7 @@ use Rattle.cobs.proofs.count_zeros.Tie as tie
 
 abbrev Inv-loop : tie.InvT-loop
 Inv-loop rest most i₀ i =
-    (i ≤ most) × (i ≤ length rest) × (zeros most (withPhantom rest) ≡ i + zeros (most - i) (drop i (withPhantom rest)))
+    (i ≤ most) × (i ≤ length rest) × (leadingZeros most (withPhantom rest) ≡ i + leadingZeros (most - i) (drop i (withPhantom rest)))
 
 abbrev μ-loop : tie.MeasureT-loop
 μ-loop rest most i₀ i = most - i
@@ -23,7 +22,7 @@ loop-holds : tie.Need-loop-holds Inv-loop μ-loop
 loop-holds c = (omega arith, omega arith, simp (zero-add, sub-zero))
 
 -- at the limit, at the phantom and at another octet, k is the count
-counted : (c : tie.Joined1 Inv-loop μ-loop) → c .if1 .k ≡ zeros (c .before .before .args .most) (withPhantom (c .before .before .args .rest .now))
+counted : (c : tie.Joined1 Inv-loop μ-loop) → c .if1 .k ≡ leadingZeros (c .before .before .args .most) (withPhantom (c .before .before .args .rest .now))
 counted c =
     let rest = c .before .before .args .rest .now in
     let most = c .before .before .args .most in

@@ -1,5 +1,4 @@
 -- `cobs::from_line` meets its contract.
--- Assumes nothing.
 use borrow.Author.Tests.{eq-eqb, ne-eqb}
 use Rattle.cobs.specs.CodeBlocks.{fromLine}
 use Rattle.cobs.proofs.from_line.Statement.{statement}

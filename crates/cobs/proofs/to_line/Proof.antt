@@ -1,5 +1,4 @@
 -- `cobs::to_line` meets its contract.
--- Assumes nothing.
 use borrow.Author.Tests.{eq-eqb, ne-eqb}
 use Rattle.cobs.specs.CodeBlocks.{flag, toLine}
 use Rattle.cobs.proofs.to_line.Statement.{statement}

@@ -1,5 +1,4 @@
 -- `count::print` is safe and ends.
--- Assumes nothing.
 use Prim.Native.Nat.{_-_, _≤_}
 use Rattle.count.proofs.print.Statement.{statement}
 use Rattle.count.proofs.print.Tie as tie

@@ -1,5 +1,4 @@
 -- `exercise::main` is safe and ends.
--- Assumes nothing.
 use Rattle.exercise.proofs.main.Statement.{statement}
 use Rattle.exercise.proofs.main.Tie as tie
 use borrow.Author.Needs.{needs}

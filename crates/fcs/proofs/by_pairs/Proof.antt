@@ -1,5 +1,4 @@
 -- `fcs::by_pairs` meets its contract. The loop's invariant is that of `by_octets`, and that the register fits.
--- Assumes nothing.
 use mathlib.Core.Path.{_≡_, refl}
 use Prim.Native.Nat.{_+_, _≤_, _<_, _-_}
 use native.Mathlib.Omega.{arith}

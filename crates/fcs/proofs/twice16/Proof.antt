@@ -1,5 +1,4 @@
 -- `fcs::twice16` meets its contract: the table has sixteen bit steps at every place, by one test that antt computes.
--- Assumes nothing.
 use Rattle.fcs.specs.Notation.{_⊕_}
 use Rattle.fcs.specs.CheckSequence.{check16, bitStep, bitSteps}
 use Rattle.fcs.proofs.Table.{test, tested}

@@ -1,5 +1,4 @@
 -- `lines::decimal`.
--- Assumes nothing.
 use native.Mathlib.Omega.{arith}
 use borrow.Author.Needs.{needs}
 use Rattle.lines.proofs.Append.{no-room}

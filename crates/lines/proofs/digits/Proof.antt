@@ -1,5 +1,4 @@
 -- `lines::digits`. The loop's invariant: the digits counted and those of the rest are one more than those of n.
--- Assumes nothing.
 use mathlib.Core.Path.{_≡_}
 use Prim.Native.Nat.{_+_, _≤_}
 use native.Mathlib.Omega.{arith}

@@ -1,5 +1,4 @@
 -- `lines::hex_digit`.
--- Assumes nothing.
 use borrow.Author.Tests.{lt-ltb, le-ltb}
 use mathlib.Core.Path.{refl}
 use borrow.Author.Needs.{needs}

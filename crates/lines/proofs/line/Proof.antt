@@ -1,5 +1,4 @@
 -- `lines::line`.
--- Assumes nothing.
 use mathlib.Core.List.{_∷_}
 use native.Mathlib.Omega.{arith}
 use Rattle.lines.specs.Lines.{space, decimal}

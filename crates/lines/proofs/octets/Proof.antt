@@ -1,11 +1,10 @@
 -- `lines::octets`. The loop's invariant: the octets still to be shown lead to what all of them make of the page.
--- Assumes nothing.
 use mathlib.Core.Path.{_≡_, refl, sym, _∙_}
 use Prim.Native.Nat.{_+_, _*_, _-_, _≤_}
 use native.Mathlib.Omega.{arith}
 use lib.ListN.{length, drop, length-set}
 use lib.Seq.{sets, drop-length}
-use Rattle.lines.specs.Lines.{octets}
+use Rattle.lines.specs.Lines.{hexOctets}
 use Rattle.lines.proofs.Append.{no-room, with-room}
 use Rattle.lines.proofs.Hexadecimal.{octets-none, octets-length, next-stored}
 use Rattle.lines.proofs.octets.Statement.{statement}
@@ -13,7 +12,7 @@ use Rattle.lines.proofs.octets.Tie as tie
 
 abbrev Inv-loop : tie.InvT-loop
 Inv-loop list page₀ filled at₀ i₀ page at i =
-    (i ≤ length list) × (at ≡ filled + 3 * i) × (length page ≡ length page₀) × (sets page₀ filled (octets list) ≡ sets page at (octets (drop i list)))
+    (i ≤ length list) × (at ≡ filled + 3 * i) × (length page ≡ length page₀) × (sets page₀ filled (hexOctets list) ≡ sets page at (hexOctets (drop i list)))
 
 abbrev μ-loop : tie.MeasureT-loop
 μ-loop list page₀ filled at₀ i₀ page at i = length list - i
@@ -81,9 +80,9 @@ returns-2 c =
     let a = l .before .before .before .before .before .args in
     let list = a .list .now in
     let done : l .loop .i ≡ length list = omega arith in
-    let end : l .loop .at ≡ a .filled + length (octets list) = omega (arith, octets-length list) in
-    let whole : l .loop .page ≡ sets (a .page .now) (a .filled) (octets list) = sym (l .loop .inv .3 ∙ rw (done, drop-length list, octets-none)) in
-    rw (end, whole) (with-room (a .page .now) (a .filled) (octets list) (omega (arith, octets-length list)))
+    let end : l .loop .at ≡ a .filled + length (hexOctets list) = omega (arith, octets-length list) in
+    let whole : l .loop .page ≡ sets (a .page .now) (a .filled) (hexOctets list) = sym (l .loop .inv .3 ∙ rw (done, drop-length list, octets-none)) in
+    rw (end, whole) (with-room (a .page .now) (a .filled) (hexOctets list) (omega (arith, octets-length list)))
 
 pub octets-spec : {M : Type 1} → statement M
 octets-spec =

@@ -1,8 +1,7 @@
 -- `lines::packet_line`.
--- Assumes nothing.
 use mathlib.Core.List.{[], _∷_}
 use native.Mathlib.Omega.{arith}
-use Rattle.lines.specs.Lines.{space, lineFeed, decimal, octets}
+use Rattle.lines.specs.Lines.{space, lineFeed, decimal, hexOctets}
 use Rattle.lines.proofs.Append.{no-room, append-three}
 use Rattle.lines.proofs.DecimalDigits.{count-most}
 use Rattle.lines.proofs.Hexadecimal.{octets-length}
@@ -57,7 +56,7 @@ returns-3 c =
     let h = o .before .before .before .before in
     let e = h .before .before in
     let a = e .before .before .before .before .before .before .args in
-    append-three _ _ _ _ (0x50 ∷ space ∷ decimal (a .n)) (octets (a .list .now)) (lineFeed ∷ []) (h .head .ensures) (o .octets .ensures) (t .text .ensures)
+    append-three _ _ _ _ (0x50 ∷ space ∷ decimal (a .n)) (hexOctets (a .list .now)) (lineFeed ∷ []) (h .head .ensures) (o .octets .ensures) (t .text .ensures)
     (omega (arith, octets-length (a .list .now)))
 
 pub packet-line-spec : {M : Type 1} → statement M

@@ -1,5 +1,4 @@
 -- `lines::room`.
--- Assumes nothing.
 use native.Mathlib.Omega.{arith}
 use Rattle.lines.proofs.room.Statement.{statement}
 use Rattle.lines.proofs.room.Tie as tie

@@ -1,5 +1,4 @@
 -- `lines::text`. The loop's invariant: the words still to be stored lead to what all of them make of the page.
--- Assumes nothing.
 use mathlib.Core.Path.{_≡_, refl, sym, _∙_}
 use Prim.Native.Nat.{_+_, _-_, _≤_}
 use native.Mathlib.Nat.{add-zero}

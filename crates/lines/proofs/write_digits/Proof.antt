@@ -1,5 +1,4 @@
 -- `lines::write_digits`. The loop's invariant: the digits of the rest, from the same place, lead to what all of them make of the page.
--- Assumes nothing.
 use mathlib.Core.Path.{_≡_, refl, sym, _∙_}
 use Prim.Native.Nat.{_+_, _/_, _<_}
 use native.Mathlib.Omega.{arith}

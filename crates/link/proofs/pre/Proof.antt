@@ -1,5 +1,4 @@
 -- `link::pre`.
--- Assumes nothing.
 use mathlib.Core.Path.{refl}
 use Rattle.link.specs.Agreed.{agreed}
 use Rattle.link.proofs.pre.Statement.{statement}

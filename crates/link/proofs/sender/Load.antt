@@ -1,5 +1,4 @@
 -- Load: the frame written at the area's start, and the cases past the first two tests.
--- Assumes nothing.
 use mathlib.Core.Path.{_≡_, refl, sym, ap, _∙_}
 use mathlib.Core.Bool.{true, false, _||_}
 use mathlib.Core.List.{List, [], _∷_, _++_}
@@ -12,9 +11,9 @@ use lib.ListN.{length, take, drop, getD, set, length-append, length-drop}
 use lib.Seq.{sets, sets-eq, take-append-seam, drop-append-add, drop-drop, drop-cons, take-suc, append-snoc, set-at, length-take-le}
 use Rattle.fcs.specs.CheckSequence.{check16, fcs}
 use Rattle.fcs.proofs.Laws.{fcs-length}
-use Rattle.link.specs.Agreed.{agreed}
+use Rattle.link.specs.Agreed.{agreed, leastPacket, largestFrame}
 use Rattle.link.specs.Answers.{done, refused}
-use Rattle.link.specs.Sender.{Lane, Sender, Load, queue, inLane, inBounds, put, load}
+use Rattle.link.specs.Sender.{Lane, Sender, Load, laneState, withLane, inBounds, putFrame, load}
 
 -- a turn of the loop that copies a list to an area's start
 pub turn : (s area : List ℕ) (i : ℕ) → i < length s → i < length area
@@ -40,33 +39,34 @@ written packet fcs area h e =
     let fits : n + length fcs ≤ length old = omega (arith, length-append packet (drop n area), length-drop n area) in
     rw add-one (ap (sets old n) (sym (two fcs e)) ∙ (sets-eq fcs old n fits ∙ rw (take-append-seam packet, drop-append-add packet, drop-drop, e)))
 
--- what `put` says
+-- what `putFrame` says
 pub put-is : (settings : ℕ) (l : Lane) (packet : List ℕ) (s : Sender) (area : List ℕ) → length packet + 2 ≤ length area
     → (let n = length packet in
     let f = fcs check16 packet in
     _≡_ {A = Load} (record {
       answer = done;
-      state = inLane l (record { length = n + 2; position = 0 }) s;
+      state = withLane l (record { length = n + 2; position = 0 }) s;
       area = set (set (packet ++ drop n area) n (getD f 0 0)) (n + 1) (getD f 1 0);
-    }) (put (agreed settings) l packet s area))
-unfolding put agreed
+    }) (putFrame (agreed settings) l packet s area))
+unfolding putFrame agreed
 put-is settings l packet s area h =
     let f = fcs check16 packet in
     let e : length f ≡ 2 = fcs-length check16 packet in
     rw (length-append packet f, e, written packet f area h e)
 
 -- past the tests of area and state
-module _ (l : Lane) (packet : List ℕ) (s : Sender) (area : List ℕ) (long : 2050 ≤ length area) (ok : inBounds (agreed (s .settings)) s ≡ true) where
-  pub holds-a-frame : 0 < queue l s .length → load l packet s area ≡ record { answer = refused 4; state = s; area = area }
+module _ (l : Lane) (packet : List ℕ) (s : Sender) (area : List ℕ) (long : largestFrame (agreed (s .settings)) ≤ length area) (ok : inBounds (agreed (s .settings)) s ≡ true) where
+  pub holds-a-frame : 0 < laneState l s .length → load l packet s area ≡ record { answer = refused 4; state = s; area = area }
   unfolding load agreed
   holds-a-frame h = simp (le-ltb _ _ long, ok, lt-ltb _ _ h)
 
-  module _ (empty : queue l s .length ≤ 0) where
-    pub not-a-packet : (ltb (length packet) 2 || ltb 2048 (length packet)) ≡ true
+  module _ (empty : laneState l s .length ≤ 0) where
+    pub not-a-packet : (ltb (length packet) leastPacket || ltb (agreed (s .settings) .limit) (length packet)) ≡ true
         → load l packet s area ≡ record { answer = refused 1; state = s; area = area }
     unfolding load agreed
     not-a-packet e = simp (le-ltb _ _ long, ok, le-ltb _ _ empty, e)
 
-    pub taken : (ltb (length packet) 2 || ltb 2048 (length packet)) ≡ false → load l packet s area ≡ put (agreed (s .settings)) l packet s area
+    pub taken : (ltb (length packet) leastPacket || ltb (agreed (s .settings) .limit) (length packet)) ≡ false
+        → load l packet s area ≡ putFrame (agreed (s .settings)) l packet s area
     unfolding load agreed
     taken e = simp (le-ltb _ _ long, ok, le-ltb _ _ empty, e)

@@ -1,5 +1,4 @@
 -- `reader::before_flag`. The loop's invariant: i, and what is counted from there on, make up the count.
--- Assumes nothing.
 use mathlib.Core.Path.{_≡_}
 use Prim.Native.Nat.{_+_, _-_, _≤_}
 use native.Mathlib.Nat.{zero-add}

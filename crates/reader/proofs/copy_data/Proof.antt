@@ -1,5 +1,4 @@
 -- `reader::copy_data`. The loop's invariant: the octets still to be stored lead to what all of them make of the area.
--- Assumes nothing.
 use mathlib.Core.List.{map}
 use mathlib.Core.Path.{_≡_, refl, sym, _∙_}
 use Prim.Native.Nat.{_+_, _-_, _≤_}

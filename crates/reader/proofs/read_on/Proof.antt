@@ -1,6 +1,5 @@
 -- `reader::read_on` meets its contract. The loop's invariant: reading on from where the loop is, with the octets used so far, is reading on
 -- from the start.
--- Assumes nothing.
 use mathlib.Core.Path.{_≡_, sym, _∙_}
 use mathlib.Core.Bool.{true}
 use Prim.Native.Nat.{_+_, _-_, _≤_}
@@ -8,10 +7,10 @@ use native.Mathlib.Omega.{arith}
 use borrow.Author.Needs.{needs}
 use borrow.Author.Tests.{not-true, not-false}
 use lib.ListN.{length, drop}
-use Rattle.link.specs.Answers.{report, isQuiet}
-use Rattle.reader.specs.Reading.{further, readOn}
+use Rattle.link.specs.Answers.{reportAnswer, isQuiet}
+use Rattle.reader.specs.Reading.{usedBefore, readOn}
 use Rattle.reader.proofs.Steps.{begins, goes-on, stops, ends}
-use Rattle.reader.proofs.Quiet.{accepts, goes-far}
+use Rattle.reader.proofs.Quiet.{ready-after, goes-far}
 use Rattle.reader.proofs.read_on.Statement.{statement}
 use Rattle.reader.proofs.read_on.Tie as tie
 
@@ -21,7 +20,7 @@ Inv-loop octets first₀ second₀ end₀ i₀ first second end i =
     × (length first ≡ length first₀)
     × (length second ≡ length second₀)
     × (readOn (record { state = end₀; first = first₀; second = second₀ }) octets
-    ≡ further i (readOn (record { state = end; first = first; second = second }) (drop i octets)))
+    ≡ usedBefore i (readOn (record { state = end; first = first; second = second }) (drop i octets)))
 
 abbrev μ-loop : tie.MeasureT-loop
 μ-loop octets first₀ second₀ end₀ i₀ first second end i = length octets - i
@@ -59,7 +58,7 @@ returns c =
 abbrev received : tie.Else1 Inv-loop μ-loop → tie.After-receive Inv-loop μ-loop
 received c = c .before .before .before .before .before .before .before
 
-quiet : (c : tie.Else1 Inv-loop μ-loop) → isQuiet (report (received c .receive .result .report)) ≡ true
+quiet : (c : tie.Else1 Inv-loop μ-loop) → isQuiet (reportAnswer (received c .receive .result .report)) ≡ true
 quiet c = sym (c .before .is-quiet .ensures) ∙ not-false (c .before .is-quiet .result) (c .if1 .left)
 
 add-i : tie.Need-add-i Inv-loop μ-loop
@@ -77,7 +76,7 @@ part-stretch-end c = search needs
 stretch-requires : tie.Need-stretch-requires Inv-loop μ-loop
 stretch-requires c κs =
     let y = c .before .before .before in
-    accepts _ _ _ (received y .receive .ensures) (quiet y)
+    ready-after _ _ _ (received y .receive .ensures) (quiet y)
 
 -- where a stretch was passed, and the answer before it
 abbrev passed : tie.After-struct-known Inv-loop μ-loop → tie.After-stretch Inv-loop μ-loop

@@ -1,13 +1,14 @@
 -- `reader::stretch`. In a refused frame the octets before the flag are skipped; in a block those counted are the ones copied.
--- Assumes nothing.
 use mathlib.Core.Path.{_≡_}
 use Prim.Native.Nat.{_+_, _-_, _≤_, _<_}
 use native.Mathlib.Nat.{sub-zero}
 use native.Mathlib.Omega.{arith}
 use borrow.Author.Needs.{needs}
 use lib.ListN.{length, take, length-take}
-use Rattle.link.specs.Receiver.{Receiving}
+use Rattle.link.specs.Agreed.{agreed, mostDecoded}
+use Rattle.link.specs.Receiver.{ReceiverEnd}
 use Rattle.link.proofs.ReadOn.{deep}
+use Rattle.link.proofs.Within.{most-is}
 use Rattle.reader.specs.Stretches.{beforeFlag}
 use Rattle.reader.proofs.Steps.{begins}
 use Rattle.reader.proofs.Quiet.{within, skips-on, in-second, in-first}
@@ -15,7 +16,7 @@ use Rattle.reader.proofs.stretch.Statement.{statement}
 use Rattle.reader.proofs.stretch.Tie as tie
 
 -- the receiver and the two areas as the call finds them
-abbrev found : tie.Start → Receiving
+abbrev found : tie.Start → ReceiverEnd
 found s = record { state = s .args .state; first = s .args .first .now; second = s .args .second .now }
 
 -- where the data octets to be copied are counted
@@ -23,20 +24,20 @@ abbrev start : tie.After-before-flag2 → tie.Start
 start c = c .before .before .before .before .before .before .before .before .before .before .before .before
 
 -- no more than are left before the last, than there is room for, and than there are
-most : (c : tie.After-least2)
+most : (c : tie.After-lesser2)
     → (let s = c .before .before .before .before .before .before .before .before .before .before in
-    (c .least2 .result < s .args .state .left) × (s .args .state .decoded + c .least2 .result ≤ 2051) × (c .least2 .result ≤ length (s .args .octets .now)))
+    (c .lesser2 .result < s .args .state .left) × (s .args .state .decoded + c .lesser2 .result ≤ mostDecoded (agreed (s .args .state .settings))) × (c .lesser2 .result ≤ length (s .args .octets .now)))
 most c =
     let k = c .before in
     let s = k .before .before .before .before .before .before .before .before .before in
-    omega (arith, c .least2 .ensures, k .least .ensures, k .before .before .if2 .left, deep (found s) (s .pre))
+    omega (arith, c .lesser2 .ensures, k .lesser .ensures, k .before .before .if2 .left, deep (found s) (s .pre), most-is (s .args .state .settings))
 
-counted : (c : tie.After-before-flag2) → c .before-flag2 .result ≡ beforeFlag (take (c .before .before .least2 .result) (start c .args .octets .now))
+counted : (c : tie.After-before-flag2) → c .before-flag2 .result ≡ beforeFlag (take (c .before .before .lesser2 .result) (start c .args .octets .now))
 counted c = rw sub-zero at (c .before-flag2 .ensures)
 
-used : (c : tie.After-before-flag2) → c .before-flag2 .result ≤ c .before .before .least2 .result
+used : (c : tie.After-before-flag2) → c .before-flag2 .result ≤ c .before .before .lesser2 .result
 used c =
-    let n = c .before .before .least2 .result in
+    let n = c .before .before .lesser2 .result in
     let l = start c .args .octets .now in
     omega (arith, counted c, within (take n l), length-take n l)
 
@@ -71,17 +72,17 @@ returns-2 c = (begins _ _, omega arith)
 cast-at : tie.Need-cast-at
 cast-at c = search needs
 
-sub-least : tie.Need-sub-least
-sub-least c = search needs
+sub-lesser : tie.Need-sub-lesser
+sub-lesser c = search needs
 
-sub-least-2 : tie.Need-sub-least-2
-sub-least-2 c = let s = c .before .before .before .before .before .before .before .before in deep (found s) (s .pre)
+sub-lesser-2 : tie.Need-sub-lesser-2
+sub-lesser-2 c = let s = c .before .before .before .before .before .before .before .before in omega (arith, deep (found s) (s .pre), most-is (s .args .state .settings))
 
-least-requires : tie.Need-least-requires
-least-requires c κs = search needs
+lesser-requires : tie.Need-lesser-requires
+lesser-requires c κs = search needs
 
-least-requires-2 : tie.Need-least-requires-2
-least-requires-2 c κs = search needs
+lesser-requires-2 : tie.Need-lesser-requires-2
+lesser-requires-2 c κs = search needs
 
 sub-before-flag : tie.Need-sub-before-flag
 sub-before-flag c = search needs
@@ -129,7 +130,7 @@ returns-3 : tie.Need-returns-3
 returns-3 c =
     let w = c .before .before in
     let u = w .before .before .before .before in (
-      in-second (found (start u)) _ (u .before .before .least2 .result) (u .before-flag2 .result) _ (start u .pre) (clean u) (most (u .before .before) .0)
+      in-second (found (start u)) _ (u .before .before .lesser2 .result) (u .before-flag2 .result) _ (start u .pre) (clean u) (most (u .before .before) .0)
           (most (u .before .before) .1) (counted u) (w .before .before .if3 .taken) (rw sub-zero at (w .copy-data .ensures)),
       omega (arith, used u, most (u .before .before)),
     )
@@ -141,7 +142,7 @@ returns-4 : tie.Need-returns-4
 returns-4 c =
     let w = c .before .before in
     let u = w .before .before .before .before in (
-      in-first (found (start u)) _ (u .before .before .least2 .result) (u .before-flag2 .result) _ (start u .pre) (clean u) (most (u .before .before) .0)
+      in-first (found (start u)) _ (u .before .before .lesser2 .result) (u .before-flag2 .result) _ (start u .pre) (clean u) (most (u .before .before) .0)
           (most (u .before .before) .1) (counted u) (w .before .before .if3 .left) (rw sub-zero at (w .copy-data2 .ensures)),
       omega (arith, used u, most (u .before .before)),
     )
@@ -155,10 +156,10 @@ stretch-spec =
     cast-ahead
     returns-2
     cast-at
-    sub-least
-    sub-least-2
-    least-requires
-    least-requires-2
+    sub-lesser
+    sub-lesser-2
+    lesser-requires
+    lesser-requires-2
     sub-before-flag
     part-before-flag-start
     part-before-flag-end

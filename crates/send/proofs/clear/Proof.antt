@@ -1,5 +1,4 @@
 -- `send::clear` is safe and ends.
--- Assumes nothing.
 use mathlib.Core.Path.{_≡_}
 use Prim.Native.Nat.{_<_}
 use borrow.Author.Needs.{needs}

@@ -1,5 +1,4 @@
 -- `send::go_on` meets its contract.
--- Assumes nothing.
 use borrow.Author.Needs.{needs}
 use native.Mathlib.Omega.{arith}
 use Rattle.send.proofs.go_on.Statement.{statement}
@@ -9,16 +8,16 @@ add-t16 : tie.Need-add-t16
 add-t16 c =
     let w = c .before .before .before in
     omega
-    (arith, w .write-on .ensures .1, w .before .write-on-arg .given, w .before .before .least .ensures .1, w .before .before .before .before .before .before .before .before .good)
+    (arith, w .write-on .ensures .1, w .before .write-on-arg .given, w .before .before .lesser .ensures, w .before .before .before .before .before .before .before .before .good)
 
 returns : tie.Need-returns
 returns c = search needs
 
-sub-least : tie.Need-sub-least
-sub-least c = search needs
+sub-lesser : tie.Need-sub-lesser
+sub-lesser c = search needs
 
-least-requires : tie.Need-least-requires
-least-requires c κs = search needs
+lesser-requires : tie.Need-lesser-requires
+lesser-requires c κs = search needs
 
 add-end : tie.Need-add-end
 add-end c = search needs
@@ -49,8 +48,8 @@ go-on-spec =
     tie.close
     (tie.spec
     returns
-    sub-least
-    least-requires
+    sub-lesser
+    lesser-requires
     add-end
     sub-write-on
     part-write-on-start

@@ -1,5 +1,4 @@
 -- `send::main` is safe and ends.
--- Assumes nothing.
 use Prim.Native.Nat.{_-_, _≤_}
 use Rattle.send.proofs.main.Statement.{statement}
 use Rattle.send.proofs.main.Tie as tie

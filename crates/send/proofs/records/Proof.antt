@@ -1,5 +1,4 @@
 -- `send::records` is safe and ends.
--- Assumes nothing.
 use mathlib.Core.Path.{_≡_}
 use Prim.Native.Nat.{_-_, _≤_, _<_}
 use borrow.Author.Needs.{needs}
@@ -21,21 +20,45 @@ add-at c =
     let l = a .before .before in
     omega (arith, l .loop .inv .0, k .record .ensures .1, a .record-arg .given, l .before .before .before .before .before .good)
 
+loop-holds : tie.Need-loop-holds Inv-loop μ-loop
+loop-holds c = search needs
+
+sub-record : tie.Need-sub-record Inv-loop μ-loop
+sub-record c = search needs
+
+part-record-start : tie.Need-part-record-start Inv-loop μ-loop
+part-record-start c = search needs
+
+part-record-end : tie.Need-part-record-end Inv-loop μ-loop
+part-record-end c = search needs
+
+record-requires : tie.Need-record-requires Inv-loop μ-loop
+record-requires c κs = search needs
+
+add-whole : tie.Need-add-whole Inv-loop μ-loop
+add-whole c = search needs
+
+loop-less : tie.Need-loop-less Inv-loop μ-loop
+loop-less c = search needs
+
+loop-again : tie.Need-loop-again Inv-loop μ-loop
+loop-again c = search needs
+
 pub records-spec : {M : Type 1} → statement M
 records-spec =
     tie.close
     (tie.spec
     Inv-loop
     μ-loop
-    (λ c. search needs)
-    (λ c. search needs)
-    (λ c. search needs)
-    (λ c. search needs)
-    (λ c κs. search needs)
-    (λ c. search needs)
+    loop-holds
+    sub-record
+    part-record-start
+    part-record-end
+    record-requires
+    add-whole
     add-at
-    (λ c. search needs)
-    (λ c. search needs)
+    loop-less
+    loop-again
     (λ c. search needs)
     (λ c. search needs)
     (λ c. search needs)

@@ -1,5 +1,4 @@
 -- `tally::front`.
--- Assumes nothing.
 use borrow.Author.Needs.{needs}
 use borrow.Author.Tests.{le-leb, lt-leb}
 use native.Mathlib.Nat.{sub-zero}

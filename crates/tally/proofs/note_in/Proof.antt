@@ -1,6 +1,5 @@
 -- `tally::note_in`, by hand: a walk of its MIR. The lent tally is opened, copied out and passed to `note`; what `note` gives back is stored,
 -- and the loan is closed at it. In brackets: what is at hand at that point, by position.
--- Assumes nothing.
 use mathlib.Core.Path.{_≡_, refl}
 use Prim.Native.Nat.{ℕ}
 use mathlib.Core.List.{[], _∷_, List}
@@ -37,7 +36,7 @@ use denote.Triple.Table.{entered, cited}
 use denote.Triple.Walked.{says, Stays, stay-ref, stay-none, walkOf, AllGo, goes-none, goes-ref, Walks, ends-at, walked, walk-meets}
 use denote.Triple.Clauses.{ensured, lasts}
 use denote.Exit.{yes}
-use Rattle.link.specs.Answers.{report}
+use Rattle.link.specs.Answers.{reportAnswer}
 use Rattle.link.specs.declared.receiver.Report.{Report}
 use Rattle.link.proofs.receiver.Report as R
 use Rattle.link.proofs.receiver.Report.Laws as R′
@@ -70,8 +69,8 @@ module _ {M : Type 1} (𝓤 : URA M) (H : Heap 𝓤) (A : Atoms 𝓤) (mem′ : 
   abbrev Note : Contract 𝓤
   Note = tripleOf 𝓤 H A note.signature (note.spec 𝓤 H A mem′ run)
 
-  noted-of : (h : Tally) (r : Report) (x : Tally) → ent 𝓤 (ensured 𝓤 H A note.ended (note.clauses 𝓤 H A mem′ run) tt (h, (r, tt)) tt x) (fact 𝓤 (x ≡ noted h (report r)))
-  noted-of h r x = exE 𝓤 _ (λ ws. snd∗ 𝓤 (sem 𝓤 H A (lasts note.ended tt (h, (r, tt)) ws)) (fact 𝓤 (x ≡ noted h (report r))))
+  noted-of : (h : Tally) (r : Report) (x : Tally) → ent 𝓤 (ensured 𝓤 H A note.ended (note.clauses 𝓤 H A mem′ run) tt (h, (r, tt)) tt x) (fact 𝓤 (x ≡ noted h (reportAnswer r)))
+  noted-of h r x = exE 𝓤 _ (λ ws. snd∗ 𝓤 (sem 𝓤 H A (lasts note.ended tt (h, (r, tt)) ws)) (fact 𝓤 (x ≡ noted h (reportAnswer r))))
 
 module _ {M : Type 1} (𝓤 : URA M) (H : Heap 𝓤) (A : Atoms 𝓤) (W : Given 𝓤 H A) (at-mem : Memory → SProp 𝓤) (run : Routine → Fun 𝓤) (κ : Lft) (q : Share) (b o : ℕ) (γ : GName) (h : Tally) (r : Report) where
   abbrev x : Arg
@@ -83,7 +82,7 @@ module _ {M : Type 1} (𝓤 : URA M) (H : Heap 𝓤) (A : Atoms 𝓤) (W : Given
   abbrev Post : Val → SProp 𝓤
   Post = walkOf 𝓤 H A f.ended stayed (f.clauses 𝓤 H A at-mem run) .post (((κ, tt), (q, tt), tt, x, at), tt)
 
-  exits : (h′ : Tally) → h′ ≡ noted h (report r) → Is R.the-row r (rvals r) → ent 𝓤 (sep 𝓤 (A .obs γ (T.the-row .coded .code h′)) (sep 𝓤 (A .bor κ (Body (mem T.the-row) b o γ)) (A .lft κ q))) (Post vunit)
+  exits : (h′ : Tally) → h′ ≡ noted h (reportAnswer r) → Is R.the-row r (rvals r) → ent 𝓤 (sep 𝓤 (A .obs γ (T.the-row .coded .code h′)) (sep 𝓤 (A .bor κ (Body (mem T.the-row) b o γ)) (A .lft κ q))) (Post vunit)
   exits h′ e is =
       qed W (‵ (fobs γ (T.the-row .coded .code h′)) ∷ ‵ (fbor κ (Body (mem T.the-row) b o γ)) ∷ ‵ (flft κ q) ∷ []) ∵
       suffices ! _ (ends-at 𝓤 H A f.ended stayed (f.clauses 𝓤 H A at-mem run) W (((κ, tt), (q, tt), tt, x, at), tt) vunit tt (h′, (tt, tt)) (tt, (tt, tt))) $ says ! e $ nothing ! $ move ! (3 ∷ 0 ∷ []) $ join ! $
@@ -113,7 +112,7 @@ module _ {M : Type 1} (𝓤 : URA M) (H : Heap 𝓤) (A : Atoms 𝓤) (W : Given
         move ! (1 ∷ 15 ∷ []) $ use2 W (raw (Note 𝓤 H A at-mem run .pre to-note)) goes-note $
         calls-at ! fm (Note 𝓤 H A at-mem run) known to-note (and-then ! (load ! (from ! (stop !)) (look ! 5 refl)) (and-then ! (load ! (from ! (stop !)) (look ! 9 refl)) (no-more !))) (λ v.
         use1 W (later (some (λ (h′ : Tally). (‵ ftrue ⊛ ‵ (T.the-row .own h′ (v ∷ []))) ⊛ raw (ensured 𝓤 H A note.ended (note.clauses 𝓤 H A at-mem run) tt (h, (r, tt)) tt h′)))) (id⊢ 𝓤 _) $ await ! tt $ pick ! (λ h′.
-        split ! $ move ! (1 ∷ []) $ use1 W (raw (fact 𝓤 (h′ ≡ noted h (report r)))) (noted-of 𝓤 H A at-mem run h r h′) $ heard ! (h′ ≡ noted h (report r)) (λ e. split ! $ drop ! $
+        split ! $ move ! (1 ∷ []) $ use1 W (raw (fact 𝓤 (h′ ≡ noted h (reportAnswer r)))) (noted-of 𝓤 H A at-mem run h r h′) $ heard ! (h′ ≡ noted h (reportAnswer r)) (λ e. split ! $ drop ! $
         peeks ! T.the-row (Is T.the-row) (shows 𝓤 H A T.the-row) h′ (v ∷ []) (λ is.
         -- [what the new tally owns; the cell; the open borrow; obs; auth; _4; …; room for _3; …; _2; …; _1; …; room for _0; …]
         land ! (from ! (stop !)) (init ! 7 refl (SL.lawful T.the-type T′.the-laws 𝓤 H A W .typed h′ _ is .0)) $

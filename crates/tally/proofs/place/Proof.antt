@@ -1,5 +1,4 @@
 -- `tally::place`.
--- Assumes nothing.
 use borrow.Author.Needs.{needs}
 use borrow.Author.Tests.{le-leb, lt-leb}
 use Rattle.tally.specs.Counts.{place}

@@ -1,5 +1,4 @@
 -- `tally::raised`.
--- Assumes nothing.
 use borrow.Author.Needs.{needs}
 use borrow.Author.Tests.{lt-ltb, le-ltb}
 use Rattle.tally.proofs.raised.Statement.{statement}

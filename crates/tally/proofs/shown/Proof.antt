@@ -1,5 +1,4 @@
 -- `tally::shown`.
--- Assumes nothing.
 use borrow.Author.Needs.{needs}
 use Rattle.tally.proofs.shown.Statement.{statement}
 use Rattle.tally.proofs.shown.Tie as tie

@@ -1,5 +1,4 @@
 -- `transcript::count`. The loop's invariant: noting the reports of what is left, from where the loop is, is noting those of all octets.
--- Assumes nothing.
 use mathlib.Core.Path.{_≡_, refl, sym, _∙_}
 use Prim.Native.Nat.{_-_, _≤_}
 use borrow.Author.Needs.{needs}

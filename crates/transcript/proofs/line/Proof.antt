@@ -1,5 +1,4 @@
 -- `transcript::line`.
--- Assumes nothing.
 use borrow.Author.Needs.{needs}
 use Rattle.transcript.proofs.line.Statement.{statement}
 use Rattle.transcript.proofs.line.Tie as tie

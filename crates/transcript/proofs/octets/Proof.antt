@@ -1,5 +1,4 @@
 -- `transcript::octets`.
--- Assumes nothing.
 use borrow.Author.Needs.{needs}
 use Rattle.transcript.proofs.octets.Statement.{statement}
 use Rattle.transcript.proofs.octets.Tie as tie

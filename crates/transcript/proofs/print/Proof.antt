@@ -1,13 +1,12 @@
 -- `transcript::print`. The loop's invariant: printing on from where the loop is, with the octets used so far, is printing from the start;
 -- and the page is as at the start as long as no octet is used.
--- Assumes nothing.
 use mathlib.Core.Path.{_≡_, sym, _∙_}
 use Prim.Native.Nat.{_-_, _≤_, min}
 use native.Mathlib.Omega.{arith}
 use borrow.Author.Needs.{needs}
 use lib.ListN.{length, drop}
 use Rattle.lines.proofs.Append.{page-within}
-use Rattle.transcript.specs.Transcript.{lineOf, further, printOn, print}
+use Rattle.transcript.specs.Transcript.{lineOf, printedAfter, printOn, print}
 use Rattle.transcript.proofs.Printing.{begins, goes-on, is-used, is-full}
 use Rattle.transcript.proofs.print.Statement.{statement}
 use Rattle.transcript.proofs.print.Tie as tie
@@ -21,7 +20,7 @@ Inv-loop octets first₀ second₀ page₀ end₀ filled₀ at₀ first second p
     × (length second ≡ length second₀)
     × (length page ≡ length page₀)
     × (print (record { state = end₀; first = first₀; second = second₀ }) octets page₀
-    ≡ further at (printOn (record { state = end; first = first; second = second }) (drop at octets) (record { area = page; filled = filled })))
+    ≡ printedAfter at (printOn (record { state = end; first = first; second = second }) (drop at octets) (record { area = page; filled = filled })))
 
 abbrev μ-loop : tie.MeasureT-loop
 μ-loop octets first₀ second₀ page₀ end₀ filled₀ at₀ first second page end filled at = length octets - at

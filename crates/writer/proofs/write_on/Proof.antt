@@ -1,6 +1,5 @@
 -- `writer::write_on` meets its contract. The loop's invariant: writing on from where the loop is, behind the octets that are on the line, is
 -- writing on from the start.
--- Assumes nothing.
 use mathlib.Core.Path.{_≡_, sym, _∙_}
 use Prim.Native.Nat.{_-_, _≤_}
 use borrow.Author.Needs.{needs}
@@ -8,8 +7,8 @@ use native.Mathlib.Nat.{zero-add, sub-zero}
 use native.Mathlib.Omega.{arith}
 use borrow.Author.Tests.{eq-eqb, ne-eqb}
 use lib.ListN.{length, length-set}
-use Rattle.writer.specs.Writing.{writeOn, onto, further}
-use Rattle.writer.proofs.Steps.{goes-on, lent, at-flag, stops, ends}
+use Rattle.writer.specs.Writing.{writeOn, onto, fromPlace}
+use Rattle.writer.proofs.Steps.{goes-on, ready-after, at-flag, stops, ends}
 use Rattle.writer.proofs.write_on.Statement.{statement}
 use Rattle.writer.proofs.write_on.Tie as tie
 
@@ -18,7 +17,7 @@ Inv-loop low high line₀ end₀ i₀ line end i =
     (i ≤ length line)
     × (length line ≡ length line₀)
     × (onto line₀ (writeOn (length line₀) (record { state = end₀; low = low; high = high }))
-    ≡ further i line (writeOn (length line - i) (record { state = end; low = low; high = high })))
+    ≡ fromPlace i line (writeOn (length line - i) (record { state = end; low = low; high = high })))
 
 abbrev μ-loop : tie.MeasureT-loop
 μ-loop low high line₀ end₀ i₀ line end i = length line₀ - i
@@ -49,7 +48,7 @@ add-i c = search needs
 stretch-requires : tie.Need-stretch-requires Inv-loop μ-loop
 stretch-requires c κs =
     let n = c .before .before .before .before .before .before .before in
-    (lent _ _ _ (c .before .before .before .before .before .before .next-octet .ensures) _ (c .before .before .before .before .answer .given .1), simp length-set (omega (arith, n .loop-test .taken)))
+    (ready-after _ _ _ (c .before .before .before .before .before .before .next-octet .ensures) _ (c .before .before .before .before .answer .given .1), simp length-set (omega (arith, n .loop-test .taken)))
 
 loop-less : tie.Need-loop-less Inv-loop μ-loop
 loop-less c = omega (arith, c .before .before .before .stretch .ensures .1 .0, c .before .before .before .before .before .before .before .before .before .before .before .loop-test .taken, c .before .before .before .before .before .before .before .before .before .before .before .before .loop .inv .1)

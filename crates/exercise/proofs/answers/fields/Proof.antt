@@ -1,5 +1,4 @@
 -- `exercise::answers::fields` is safe and ends.
--- Assumes nothing.
 use Prim.Native.Nat.{_-_}
 use Rattle.exercise.proofs.answers.fields.Statement.{statement}
 use Rattle.exercise.proofs.answers.fields.Tie as tie

@@ -1,5 +1,4 @@
 -- `exercise::calls::receive_all` is safe and ends.
--- Assumes nothing.
 use Prim.Native.Nat.{_-_, _≤_}
 use Rattle.exercise.proofs.calls.receive_all.Statement.{statement}
 use Rattle.exercise.proofs.calls.receive_all.Tie as tie

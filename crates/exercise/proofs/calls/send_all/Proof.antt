@@ -1,5 +1,4 @@
 -- `exercise::calls::send_all` is safe and ends.
--- Assumes nothing.
 use Rattle.exercise.proofs.calls.send_all.Statement.{statement}
 use Rattle.exercise.proofs.calls.send_all.Tie as tie
 use borrow.Author.Needs.{needs}

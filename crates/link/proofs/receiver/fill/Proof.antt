@@ -1,5 +1,4 @@
 -- `link::receiver::fill`. The loop's invariant: the zeros still to be stored lead to what all of them make of the area.
--- Assumes nothing.
 use mathlib.Core.Path.{_≡_, refl, sym, _∙_}
 use Prim.Native.Nat.{_+_, _-_, _≤_}
 use native.Mathlib.Omega.{arith}

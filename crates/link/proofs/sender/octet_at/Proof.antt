@@ -1,5 +1,4 @@
 -- `link::sender::octet_at`.
--- Assumes nothing.
 use mathlib.Core.Path.{sym}
 use borrow.Author.Needs.{needs}
 use Rattle.link.proofs.D.{before, behind}

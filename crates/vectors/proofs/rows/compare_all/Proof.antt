@@ -1,5 +1,4 @@
 -- `vectors::rows::compare_all` is safe and ends.
--- Assumes nothing.
 use Rattle.vectors.proofs.rows.compare_all.Statement.{statement}
 use Rattle.vectors.proofs.rows.compare_all.Tie as tie
 use borrow.Author.Needs.{needs}

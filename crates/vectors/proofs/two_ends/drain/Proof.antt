@@ -1,5 +1,4 @@
 -- `vectors::two_ends::drain` is safe and ends.
--- Assumes nothing.
 use Rattle.vectors.proofs.two_ends.drain.Statement.{statement}
 use Rattle.vectors.proofs.two_ends.drain.Tie as tie
 use borrow.Author.Needs.{needs}

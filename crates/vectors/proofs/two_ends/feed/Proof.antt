@@ -1,5 +1,4 @@
 -- `vectors::two_ends::feed` is safe and ends.
--- Assumes nothing.
 use Prim.Native.Nat.{_-_, _≤_}
 use Rattle.vectors.proofs.two_ends.feed.Statement.{statement}
 use Rattle.vectors.proofs.two_ends.feed.Tie as tie

@@ -1,5 +1,4 @@
 -- `link::receiver::Receiver::held_ok`.
--- Assumes nothing.
 use borrow.Author.Needs.{needs}
 use Rattle.link.specs.Agreed.{agreed}
 use Rattle.link.proofs.receiver.Receiver.held_ok.Statement.{statement}

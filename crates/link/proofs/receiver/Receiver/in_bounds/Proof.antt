@@ -1,5 +1,4 @@
 -- `link::receiver::Receiver::in_bounds`. The counts one by one, then the marks.
--- Assumes nothing.
 use mathlib.Core.Path.{_≡_, sym, _∙_}
 use borrow.Author.Needs.{needs}
 use borrow.Author.Tests.{not-true, not-false, ne-eqb, le-leb, lt-leb}
@@ -70,13 +69,13 @@ returns-7 c =
     let t = c .before .before in
     sym (marks (t .before) ∙ refusal-ok (self (t .before)) (t .if5 .taken) (c .before .if6 .left) (c .if7 .left))
 
-block-ok-requires : tie.Need-block-ok-requires
-block-ok-requires c κs = search needs
+last-block-ok-requires : tie.Need-last-block-ok-requires
+last-block-ok-requires c κs = search needs
 
 returns-8 : tie.Need-returns-8
 returns-8 c =
     let t = c .before .before in
-    c .block-ok .ensures ∙ sym (marks (t .before) ∙ framed-ok (self (t .before)) (t .if5 .left) (c .before .if8 .taken))
+    c .last-block-ok .ensures ∙ sym (marks (t .before) ∙ framed-ok (self (t .before)) (t .if5 .left) (c .before .if8 .taken))
 
 fresh-ok-requires : tie.Need-fresh-ok-requires
 fresh-ok-requires c κs = search needs
@@ -99,7 +98,7 @@ in-bounds-spec =
     returns-5
     returns-6
     returns-7
-    block-ok-requires
+    last-block-ok-requires
     returns-8
     fresh-ok-requires
     returns-9)

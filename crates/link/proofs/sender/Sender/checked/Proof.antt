@@ -1,11 +1,10 @@
 -- `link::sender::Sender::checked`.
--- Assumes nothing.
 use mathlib.Core.Path.{sym, _∙_}
 use borrow.Author.Needs.{needs}
 use borrow.Author.Tests.{not-true, not-false}
 use Rattle.link.specs.Agreed.{agreed}
 use Rattle.link.specs.Sender.{next}
-use Rattle.link.proofs.sender.Bounds.{not-short}
+use Rattle.link.proofs.Tests.{none-short}
 use Rattle.link.proofs.sender.Sender.checked.Statement.{statement}
 use Rattle.link.proofs.sender.Sender.checked.Tie as tie
 
@@ -16,24 +15,24 @@ next-refused-requires : tie.Need-next-refused-requires
 next-refused-requires c κs = search needs
 
 returns : tie.Need-returns
-unfolding next agreed
+unfolding next
 returns c =
     let i = c .before in
     let b = i .before in
-    rw (not-short _ _ (b .before .before .before .pre), sym (b .in-bounds .ensures), not-true (b .in-bounds .result) (i .if1 .taken), c .next-refused .ensures)
+    rw (none-short _ _ _ (b .before .before .before .pre), sym (b .in-bounds .ensures), not-true (b .in-bounds .result) (i .if1 .taken), c .next-refused .ensures)
 
-steps-requires : tie.Need-steps-requires
-steps-requires c κs =
+steps-1-to-6-requires : tie.Need-steps-1-to-6-requires
+steps-1-to-6-requires c κs =
     let b = c .before in
     let l = b .before .before .before .pre in
     (sym (b .in-bounds .ensures) ∙ not-false (b .in-bounds .result) (c .if1 .left), l .0, l .1)
 
 returns-2 : tie.Need-returns-2
-unfolding next agreed
+unfolding next
 returns-2 c =
     let i = c .before in
     let b = i .before in
-    rw (not-short _ _ (b .before .before .before .pre), sym (b .in-bounds .ensures), not-false (b .in-bounds .result) (i .if1 .left)) (c .steps .ensures)
+    rw (none-short _ _ _ (b .before .before .before .pre), sym (b .in-bounds .ensures), not-false (b .in-bounds .result) (i .if1 .left)) (c .steps-1-to-6 .ensures)
 
 pub checked-spec : {M : Type 1} → statement M
-checked-spec = tie.close (tie.spec in-bounds-requires next-refused-requires returns steps-requires returns-2)
+checked-spec = tie.close (tie.spec in-bounds-requires next-refused-requires returns steps-1-to-6-requires returns-2)

@@ -1,7 +1,7 @@
 -- `link::sender::Sender::data_due`.
--- Assumes nothing.
 use native.Mathlib.Omega.{arith}
 use borrow.Author.Needs.{needs}
+use Rattle.link.specs.Agreed.{agreed}
 use Rattle.link.proofs.Tests.{false-true}
 use Rattle.link.proofs.sender.Sender.data_due.Statement.{statement}
 use Rattle.link.proofs.sender.Sender.data_due.Tie as tie
@@ -40,6 +40,7 @@ returns-6 : tie.Need-returns-6
 returns-6 c = false-true
 
 returns-7 : tie.Need-returns-7
+unfolding agreed
 returns-7 c = search needs
 
 pub data-due-spec : {M : Type 1} → statement M

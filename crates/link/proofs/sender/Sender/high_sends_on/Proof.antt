@@ -1,5 +1,4 @@
 -- `link::sender::Sender::high_sends_on`.
--- Assumes nothing.
 use mathlib.Core.Path.{sym, _∙_}
 use borrow.Author.Needs.{needs}
 use borrow.Author.Tests.{not-false}
@@ -14,8 +13,8 @@ returns c = false-true
 returns-2 : tie.Need-returns-2
 returns-2 c = false-true
 
-queue-in-bounds-requires : tie.Need-queue-in-bounds-requires
-queue-in-bounds-requires c κs = search needs
+lane-in-bounds-requires : tie.Need-lane-in-bounds-requires
+lane-in-bounds-requires c κs = search needs
 
 returns-3 : tie.Need-returns-3
 returns-3 c = false-true
@@ -31,12 +30,12 @@ returns-4 c = λ t.
     let w = q .before in
     let m = w .before .before .before in
     record {
-      some = d .some;
+      dataLeft = d .dataLeft;
       bounds =
           high-due _ (m .if1 .left) (w .if2 .left)
-          (sym (q .queue-in-bounds .ensures _) ∙ not-false (q .queue-in-bounds .result) (i .if3 .left))
+          (sym (q .lane-in-bounds .ensures _) ∙ not-false (q .lane-in-bounds .result) (i .if3 .left))
           d;
     }
 
 pub high-sends-on-spec : {M : Type 1} → statement M
-high-sends-on-spec = tie.close (tie.spec returns returns-2 queue-in-bounds-requires returns-3 data-due-requires returns-4)
+high-sends-on-spec = tie.close (tie.spec returns returns-2 lane-in-bounds-requires returns-3 data-due-requires returns-4)

@@ -1,5 +1,4 @@
 -- `link::sender::Sender::low_sends_on`.
--- Assumes nothing.
 use borrow.Author.Needs.{needs}
 use Rattle.link.proofs.Tests.{false-true}
 use Rattle.link.proofs.sender.Bounds.{low-due}
@@ -24,7 +23,7 @@ returns-4 c = λ t.
     let p = c .before in
     let h = p .before .before in
     let m = h .before .before in
-    (record { some = d .some; bounds = low-due _ (m .if1 .left) (h .if2 .left) (p .if3 .left) d }, h .if2 .left)
+    (record { dataLeft = d .dataLeft; bounds = low-due _ (m .if1 .left) (h .if2 .left) (p .if3 .left) d }, h .if2 .left)
 
 pub low-sends-on-spec : {M : Type 1} → statement M
 low-sends-on-spec = tie.close (tie.spec returns returns-2 returns-3 data-due-requires returns-4)

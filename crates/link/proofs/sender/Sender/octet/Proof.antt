@@ -1,9 +1,8 @@
 -- `link::sender::Sender::octet`.
--- Assumes nothing.
 use mathlib.Core.Path.{ap}
 use native.Mathlib.Omega.{arith}
 use borrow.Author.Needs.{needs}
-use Rattle.link.specs.Sender.{Lane, queue}
+use Rattle.link.specs.Sender.{Lane, laneState}
 use Rattle.link.proofs.sender.Sender.octet.Statement.{statement}
 use Rattle.link.proofs.sender.Sender.octet.Tie as tie
 
@@ -12,14 +11,14 @@ enum-told c = search needs
 
 octet-at-requires : tie.Need-octet-at-requires
 octet-at-requires c κs =
-    let s = c .before .before .before in omega (arith, s .pre, ap (λ (l : Lane). queue l (s .args .self) .length) (c .enum-told .given .1))
+    let s = c .before .before .before in omega (arith, s .pre, ap (λ (l : Lane). laneState l (s .args .self) .length) (c .enum-told .given .1))
 
 enum-told-2 : tie.Need-enum-told-2
 enum-told-2 c = search needs
 
 octet-at-requires-2 : tie.Need-octet-at-requires-2
 octet-at-requires-2 c κs =
-    let s = c .before .before .before in omega (arith, s .pre, ap (λ (l : Lane). queue l (s .args .self) .length) (c .enum-told2 .given .1))
+    let s = c .before .before .before in omega (arith, s .pre, ap (λ (l : Lane). laneState l (s .args .self) .length) (c .enum-told2 .given .1))
 
 returns : tie.Need-returns
 returns c = rw (c .before .enum-told .given .1) (c .octet-at .ensures)
