@@ -266,10 +266,10 @@ keeps-holding d pos e w k h =
 -- ---- a flag
 
 -- D is covered: the last block was neither none nor D0
-covered : (b : LastBlock) (n rest : ℕ) → rest ≡ 0 → Ahead b n rest → (isNoBlock b ≡ false) × (isD0 b ≡ false)
-covered noBlock n rest e a = absurd (omega arith)
-covered blockD0 n rest e a = absurd (omega arith)
-covered otherBlock n rest e a = (refl, refl)
+last-covered : (b : LastBlock) (n rest : ℕ) → rest ≡ 0 → Ahead b n rest → (isNoBlock b ≡ false) × (isD0 b ≡ false)
+last-covered noBlock n rest e a = absurd (omega arith)
+last-covered blockD0 n rest e a = absurd (omega arith)
+last-covered otherBlock n rest e a = (refl, refl)
 
 -- inside a block: there was one
 block-open : (b : LastBlock) (n rest : ℕ) → 0 < n → Ahead b n rest → isNoBlock b ≡ false
@@ -315,7 +315,7 @@ module _ (g : Agreed) (e : ReceiverEnd) (z : Ready g e) where
         let f = frame (g .check) p in
         let size : length (withPhantom f) ≡ length f + 1 = length-append f (0 ∷ []) in
         let long : length f ≡ length p + g .check .fcsLength = frame-long g p in
-        let last = covered (r .last) 0 (length (withPhantom f) - (length f + 1)) (omega arith) (fo .ahead) in
+        let last = last-covered (r .last) 0 (length (withPhantom f) - (length f + 1)) (omega arith) (fo .ahead) in
         let n : r .decoded - 1 ≡ length f = omega (arith, fo .count) in
         let ok : good (g .check) (take (length f) (work e .area)) ≡ true =
         rw (decoded-frame f (work e .area) (fo .same)) (good-frame (g .check) sound p) in

@@ -5,7 +5,7 @@ use mathlib.Core.Logic.{⊎-elim}
 use mathlib.Core.List.{List, [], _∷_, map, List·Memᴰ, List·Memᴰ·not-nil, List·Memᴰ·cases-cons}
 use Prim.Native.Nat.{ℕ}
 use native.Mathlib.Omega.{arith}
-use borrow.Author.Tests.{ltb-false, eqb-true, eqb-false}
+use borrow.Author.Tests.{eqb-true, eqb-false}
 use lib.Dec.{ltb, eqb}
 use lib.ListN.{length}
 use Rattle.cobs.specs.CodeBlocks.{flag}
@@ -17,7 +17,7 @@ use Rattle.link.specs.Receiver.{Receiver, ReceiverEnd, Receive, receive}
 use Rattle.link.specs.Receiver as receiver
 use Rattle.link.specs.Runs.{SenderCall, loading, nextOctet, Station, freshStation, senderAnswers, afterLoad, afterNext, receives}
 use Rattle.link.specs.Demands.{KeepBounds, NeverOutOfBounds, freshReceiver}
-use Rattle.link.proofs.Tests.{if-so, or-left, or-right}
+use Rattle.link.proofs.Tests.{if-so, not-below}
 use Rattle.link.proofs.Way.{Way, ends, cuts, warns, goes, Turn, cut·due, idles, resumes·low, begins·high, begins·low, high·on, low·on, turn}
 use Rattle.link.proofs.ReceiverBounds as heard
 use Rattle.link.proofs.SenderBounds as sent
@@ -40,12 +40,8 @@ module _ (g : Agreed) (e : ReceiverEnd) (x : ℕ) (b : InBounds g (e .state)) wh
 
   ready : short ≡ false → heard.Ready g e
   ready k =
-      record {
-        agrees = b .agrees;
-        bounds = b .bounds;
-        first = ltb-false (length (e .first)) (mostDecoded g) (or-left (ltb (length (e .first)) (mostDecoded g)) (ltb (length (e .second)) (mostDecoded g)) k);
-        second = ltb-false (length (e .second)) (mostDecoded g) (or-right (ltb (length (e .first)) (mostDecoded g)) (ltb (length (e .second)) (mostDecoded g)) k);
-      }
+      let long = not-below (length (e .first)) (mostDecoded g) (length (e .second)) (mostDecoded g) k in
+      record { agrees = b .agrees; bounds = b .bounds; first = long .0; second = long .1 }
 
   receive-in-bounds : InBounds g (receive e x .after .state)
   receive-in-bounds =

@@ -14,7 +14,7 @@ use Rattle.link.specs.Agreed.{Agreed, agreed, mostDecoded}
 use Rattle.link.specs.Answers.{Answer, quiet, refused}
 use Rattle.link.specs.Receiver.{Working, ReceiverEnd, Receive, withDue, withDecoded, inBounds, work, putBack, receive}
 use Rattle.link.specs.ReceiverParts.{ReceiverReady}
-use Rattle.link.proofs.Tests.{both-long, none-short}
+use Rattle.link.proofs.Tests.{not-below, none-short}
 use Rattle.link.proofs.Area.{stored}
 use Rattle.link.proofs.ReceiverBounds.{Ready, bounds, in-bounds, steps-data, receive-other, area-long, receive-ready}
 use Rattle.link.proofs.ReceiverCases.{inner-octet, too-short, out-of-bounds, skipped}
@@ -43,7 +43,7 @@ after-quiet e x q =
     let short = ltb (length (e .first)) m || ltb (length (e .second)) m in
     decide short (λ s. refused-quiet 2 (ap answered (sym (too-short e x s)) ∙ q))
     (λ s. decide (inBounds g (e .state))
-    (λ b. let l = both-long m _ _ s in receiver-ready g (receive e x .after) (receive-ready g e x (ready e (b, l .0, l .1))))
+    (λ b. let l = not-below _ m _ m s in receiver-ready g (receive e x .after) (receive-ready g e x (ready e (b, l .0, l .1))))
     (λ b. refused-quiet 3 (ap answered (sym (out-of-bounds e x s b)) ∙ q)))
 
 -- a refusal is remembered: an octet that is no flag is skipped

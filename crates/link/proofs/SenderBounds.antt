@@ -15,7 +15,7 @@ use Rattle.cobs.proofs.Chosen.{Stands, chosen-at}
 use Rattle.link.specs.Agreed.{Agreed, agreed, leastPacket, leastFrame, largestFrame}
 use Rattle.link.specs.Answers.{refused}
 use Rattle.link.specs.Sender.{Lane, low, high, OnLine, noLane, sending, LaneState, Sender, SenderEnd, Step, Load, laneState, loaded, laneD, laneArea, laneOk, lineOk, laneOnLineOk, inBounds, putFrame, load, step1CutDue, next}
-use Rattle.link.proofs.Tests.{ands, true-false, false-true, or-left, or-right, or-cases}
+use Rattle.link.proofs.Tests.{ands, true-false, false-true, not-below, or-cases}
 use Rattle.link.proofs.Way.{Advance, last, more, covers, opens, Way, ends, cuts, warns, goes, sender, Turn, cut·due, idles, resumes·low, begins·high, begins·low, high·on, low·on, turn}
 use Rattle.link.proofs.Follow.{frame-long}
 
@@ -348,9 +348,8 @@ next-keeps g e ag b =
     (branch P short (λ _. record { settings = refl; bounds = b })
     (λ k. branch P (not (inBounds g s)) (λ _. record { settings = refl; bounds = b })
     (λ _.
-    turn-keeps g (s .low) (s .high) (s .left) (s .zeros) (s .settings) (e .low) (e .high)
-    (ltb-false (length (e .low)) (largestFrame g) (or-left (ltb (length (e .low)) (largestFrame g)) (ltb (length (e .high)) (largestFrame g)) k))
-    (ltb-false (length (e .high)) (largestFrame g) (or-right (ltb (length (e .low)) (largestFrame g)) (ltb (length (e .high)) (largestFrame g)) k))
+    let long = not-below (length (e .low)) (largestFrame g) (length (e .high)) (largestFrame g) k in
+    turn-keeps g (s .low) (s .high) (s .left) (s .zeros) (s .settings) (e .low) (e .high) (long .0) (long .1)
     (s .on) (s .suspended) (s .cut) _
     (turn g (s .low) (s .high) (s .left) (s .zeros) (s .settings) (e .low) (e .high) (s .on) (s .suspended) (s .cut)) b)))
 
@@ -402,12 +401,8 @@ by-load g l p s a P ag same f =
     (λ _. branch P (loaded (laneState l s)) (λ _. same 4)
     (λ e₁. branch P (ltb (length p) leastPacket || ltb (g .limit) (length p)) (λ _. same 1)
     (λ e₂.
-    f
-    (record {
-      free = omega (arith, ltb-false 0 (laneState l s .length) e₁);
-      big = ltb-false (length p) leastPacket (or-left (ltb (length p) leastPacket) (ltb (g .limit) (length p)) e₂);
-      small = ltb-false (g .limit) (length p) (or-right (ltb (length p) leastPacket) (ltb (g .limit) (length p)) e₂);
-    }))))))
+    let size = not-below (length p) leastPacket (g .limit) (length p) e₂ in
+    f (record { free = omega (arith, ltb-false 0 (laneState l s .length) e₁); big = size .0; small = size .1 }))))))
 
 -- the state of a lane that was just loaded
 abbrev pub q·p : Agreed → List ℕ → LaneState

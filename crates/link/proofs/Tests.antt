@@ -36,9 +36,9 @@ pub or-cases : {Q : Type 0} (a b : Bool) → (a || b) ≡ true → (a ≡ true �
 or-cases true b e f g = f refl
 or-cases false b e f g = g e
 
--- two lengths, neither of them below a limit
-pub both-long : (m a b : ℕ) → (ltb a m || ltb b m) ≡ false → (m ≤ a) × (m ≤ b)
-both-long m a b e = (ltb-false a m (or-left (ltb a m) (ltb b m) e), ltb-false b m (or-right (ltb a m) (ltb b m) e))
+-- two numbers, neither of them below its limit
+pub not-below : (a m b n : ℕ) → (ltb a m || ltb b n) ≡ false → (m ≤ a) × (n ≤ b)
+not-below a m b n e = (ltb-false a m (or-left (ltb a m) (ltb b n) e), ltb-false b n (or-right (ltb a m) (ltb b n) e))
 
 pub none-short : (m a b : ℕ) → (m ≤ a) × (m ≤ b) → (ltb a m || ltb b m) ≡ false
 none-short m a b l = rw (le-ltb a m (l .0), le-ltb b m (l .1))

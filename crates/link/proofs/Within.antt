@@ -5,7 +5,7 @@ use mathlib.Core.List.{List}
 use mathlib.Core.Path.{_≡_, refl}
 use Prim.Native.Nat.{ℕ, _+_, _-_, _≤_}
 use native.Mathlib.Omega.{arith}
-use borrow.Author.Tests.{ltb-false, eqb-false, not-true, not-false}
+use borrow.Author.Tests.{eqb-false, not-true, not-false}
 use lib.Dec.{ltb, eqb}
 use lib.ListN.{length, take}
 use Rattle.fcs.specs.CheckSequence.{good}
@@ -14,7 +14,7 @@ use Rattle.cobs.proofs.Tests.{branch}
 use Rattle.link.specs.Agreed.{Agreed, agreed, leastFrame, mostDecoded}
 use Rattle.link.specs.Answers.{Answer, done, octet, idle, quiet, packet, held, refused}
 use Rattle.link.specs.Receiver.{ReceiverEnd, Receive, Ended, isNoBlock, isD0, inBounds, step5WithoutPhantom, step5Flag, atFlag, areaOf, work, flagged, receive}
-use Rattle.link.proofs.Tests.{or-left, or-right}
+use Rattle.link.proofs.Tests.{not-below}
 use Rattle.link.proofs.ReceiverBounds.{Bounds, bounds}
 
 -- A packet's length is within the limit, and within the area that is named. No more octets are held than a receiver decodes. 14 is the last
@@ -59,13 +59,12 @@ within e x =
     let g = agreed (e .state .settings) in
     let most = mostDecoded g in
     let P : Receive → Type 0 = λ h. Within g (h .report) (h .after) in
-    let a = ltb (length (e .first)) most in
-    let b = ltb (length (e .second)) most in
-    branch P (a || b) (λ _. omega arith)
+    branch P (ltb (length (e .first)) most || ltb (length (e .second)) most) (λ _. omega arith)
     (λ s. branch P (not (inBounds g (e .state))) (λ _. omega arith)
-    (λ i. branch P (eqb x flag)
-    (λ _. flag-within g e
-    (branch (λ (l : List ℕ). most ≤ length l) (e .state .turn) (λ _. ltb-false (length (e .second)) most (or-right a b s)) (λ _. ltb-false (length (e .first)) most (or-left a b s)))
+    (λ i.
+    let long = not-below (length (e .first)) most (length (e .second)) most s in
+    branch P (eqb x flag)
+    (λ _. flag-within g e (branch (λ (l : List ℕ). most ≤ length l) (e .state .turn) (λ _. long .1) (λ _. long .0))
     (bounds g (e .state) (not-false (inBounds g (e .state)) i)))
     (λ _. tt)))
 

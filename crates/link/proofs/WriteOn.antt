@@ -15,7 +15,7 @@ use Rattle.link.specs.Answers.{octet}
 use Rattle.link.specs.Sender.{Lane, low, high, sending, Sender, SenderEnd, Step, Next, laneArea, laneState, inBounds, withBlock, positionUp, step5Data, outAnswer, next, seen}
 use Rattle.link.specs.SenderParts.{SenderReady}
 use Rattle.link.proofs.D as D
-use Rattle.link.proofs.Tests.{both-long, none-short}
+use Rattle.link.proofs.Tests.{not-below, none-short}
 use Rattle.link.proofs.InBounds.{keep-bounds}
 use Rattle.link.proofs.sender.Bounds.{low-on, high-on, low-sends, high-sends}
 
@@ -29,7 +29,7 @@ ready-before e x =
     let P : Step → Type 0 = λ st. octet x ≡ outAnswer (st .out) → SenderReady e in
     branch P (ltb (length (e .low)) m || ltb (length (e .high)) m) (λ _ q. absurd (let z : _≡_ {A = ℕ} 0 1 = cc in omega arith))
     (λ k. branch P (not (inBounds (agreed (s .settings)) s)) (λ _ q. absurd (let z : _≡_ {A = ℕ} 0 1 = cc in omega arith))
-    (λ i q. record { low = both-long m (length (e .low)) (length (e .high)) k .0; high = both-long m (length (e .low)) (length (e .high)) k .1; bounds = not-false (inBounds (agreed (s .settings)) s) i }))
+    (λ i q. record { low = not-below (length (e .low)) m (length (e .high)) m k .0; high = not-below (length (e .low)) m (length (e .high)) m k .1; bounds = not-false (inBounds (agreed (s .settings)) s) i }))
 
 -- and the state after it is in bounds again
 pub octet-ready : (e : SenderEnd) (x : ℕ) (t : Sender) → record { answer = octet x; state = t } ≡ seen (next e) → SenderReady (record { state = t; low = e .low; high = e .high })

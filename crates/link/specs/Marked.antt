@@ -22,7 +22,7 @@ pub data Case : Type 0 where
   refusedTen : List ℕ → Bool → Case
   chosen : List ℕ → ℕ → Case
 
--- areas of the smallest lengths, for either lane and for either turn
+-- areas of the smallest lengths: one for either lane of a sender, one for either area of a receiver
 abbrev pub senderArea : List ℕ
 senderArea = replicate 2050 0
 

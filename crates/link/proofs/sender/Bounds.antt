@@ -4,7 +4,7 @@ use mathlib.Core.Bool.{Bool, true, false, _&&_, _||_}
 use mathlib.Core.List.{List}
 use Prim.Native.Nat.{ℕ, _+_, _≤_, _<_}
 use native.Mathlib.Omega.{arith}
-use borrow.Author.Tests.{ltb-false, le-ltb, lt-ltb, eqb-false}
+use borrow.Author.Tests.{le-ltb, lt-ltb, eqb-false}
 use lib.Dec.{ltb, eqb}
 use lib.ListN.{length}
 use Rattle.link.specs.Agreed.{Agreed, agreed, largestFrame}
@@ -13,10 +13,6 @@ use Rattle.link.specs.Sender.{withBlock, positionUp, steps3To6, step5Dat
 use Rattle.link.specs.SenderParts.{LaneReady, DataDue}
 use Rattle.link.proofs.Tests.{or-left, or-right, true-false}
 use Rattle.link.proofs.SenderBounds.{LaneOk, LineOk, Bounds, bounds, in-bounds, ok-lane, most}
-
--- a number from the least to the most
-pub at-most : (least greatest n : ℕ) → (ltb n least || ltb greatest n) ≡ false → n ≤ greatest
-at-most least greatest n e = ltb-false greatest n (or-right (ltb n least) (ltb greatest n) e)
 
 -- the block stays where a lane moves on
 pub same-block : (n : ℕ) (l : Lane) (s : Sender) → withBlock (s .left) (s .zeros) (positionUp n l s) ≡ positionUp n l s

@@ -8,7 +8,7 @@ use borrow.Author.Needs.{needs}
 use borrow.Author.Tests.{not-true, not-false}
 use Rattle.link.specs.Agreed.{agreed, mostDecoded}
 use Rattle.link.specs.Receiver.{ReceiverEnd, inBounds, flagged}
-use Rattle.link.proofs.Tests.{both-long}
+use Rattle.link.proofs.Tests.{not-below}
 use Rattle.link.proofs.ReceiverBounds.{bounds as facts}
 use Rattle.link.proofs.ReceiverCases.{too-short, out-of-bounds, flag-first, flag-second}
 use Rattle.link.proofs.ReceiverCases.{skipped, octet-first, octet-second, inFirst, inSecond}
@@ -43,7 +43,7 @@ most c = mostDecoded (agreed (start c .args .self .settings))
 
 long : (c : tie.Else2) → (most c ≤ length (start c .args .first .now)) × (most c ≤ length (start c .args .second .now))
 unfolding agreed
-long c = both-long _ (length (start c .args .first .now)) (length (start c .args .second .now)) (c .before .before .if1 .left)
+long c = not-below (length (start c .args .first .now)) _ (length (start c .args .second .now)) _ (c .before .before .if1 .left)
 
 bounds : (c : tie.Else2) → inBounds (agreed (start c .args .self .settings)) (start c .args .self) ≡ true
 bounds c = sym (c .before .in-bounds .ensures) ∙ not-false (c .before .in-bounds .result) (c .if2 .left)

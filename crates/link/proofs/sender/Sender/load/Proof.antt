@@ -2,10 +2,11 @@
 use mathlib.Core.Bool.{true}
 use mathlib.Core.Path.{_∙_, _≡_, sym}
 use borrow.Author.Needs.{needs}
+use lib.ListN.{length}
 use borrow.Author.Tests.{lt-ltb, le-ltb, not-true, not-false}
 use Rattle.link.specs.Agreed.{agreed}
 use Rattle.link.specs.Sender.{inBounds, load}
-use Rattle.link.proofs.sender.Bounds.{at-most}
+use Rattle.link.proofs.Tests.{not-below}
 use Rattle.link.proofs.sender.Load.{holds-a-frame, not-a-packet, taken}
 use Rattle.link.proofs.sender.Sender.load.Statement.{statement}
 use Rattle.link.proofs.sender.Sender.load.Tie as tie
@@ -71,7 +72,9 @@ put-frame-requires : tie.Need-put-frame-requires
 unfolding agreed
 put-frame-requires c κs =
     let s = c .before in
-    (at-most 2 _ _ (s .if4 .left), s .before .before .before .before .before .if1 .left)
+    let b = s .before .before .before .before in
+    let n = length (b .before .before .before .before .args .packet .now) in
+    (not-below n 2 _ n (s .if4 .left) .1, b .before .if1 .left)
 
 same-length : tie.Need-same-length
 same-length c = search needs

@@ -6,7 +6,7 @@ use lib.ListN.{length}
 use Rattle.link.specs.Agreed.{agreed}
 use Rattle.link.specs.Sender.{low, high, sending, seen, next}
 use Rattle.link.proofs.sender.Bounds.{low-on, high-on, low-sends, high-sends}
-use Rattle.link.proofs.Tests.{both-long}
+use Rattle.link.proofs.Tests.{not-below}
 use Rattle.link.proofs.sender.Sender.next_octet.Statement.{statement}
 use Rattle.link.proofs.sender.Sender.next_octet.Tie as tie
 
@@ -16,15 +16,15 @@ returns c = rw (c .before .if1 .taken, c .next-refused .ensures)
 
 checked-requires : tie.Need-checked-requires
 unfolding agreed
-checked-requires c κs = both-long _ _ _ (c .before .before .if1 .left)
+checked-requires c κs = not-below _ _ _ _ (c .before .before .if1 .left)
 
 checked-requires-2 : tie.Need-checked-requires-2
 unfolding agreed
-checked-requires-2 c κs = both-long _ _ _ (c .before .before .before .before .before .before .before .if1 .left)
+checked-requires-2 c κs = not-below _ _ _ _ (c .before .before .before .before .before .before .before .if1 .left)
 
 checked-requires-3 : tie.Need-checked-requires-3
 unfolding agreed
-checked-requires-3 c κs = both-long _ _ _ (c .before .before .before .before .before .before .before .if1 .left)
+checked-requires-3 c κs = not-below _ _ _ _ (c .before .before .before .before .before .before .before .if1 .left)
 
 -- the lane on the line is low, and it sends on
 low-is-on : (t : tie.After-enum-told2) → t .before .before .before .before .before .before .before .before .args .self .on ≡ sending low
@@ -36,7 +36,7 @@ step5-data-requires c κs =
     let t = c .before .before in
     let a = t .before .before .before .before .before .before .before .before .args in
     let d = c .before .low-sends-on .ensures (c .if2 .taken) .0 in
-    let l = both-long _ (length (now (a .low))) (length (now (a .high))) (t .before .before .before .before .before .if1 .left) in
+    let l = not-below (length (now (a .low))) _ (length (now (a .high))) _ (t .before .before .before .before .before .if1 .left) in
     (d .dataLeft, low-on (a .self) (d .bounds (low-is-on t)) _ (l .0) (low-is-on t))
 
 returns-2 : tie.Need-returns-2
@@ -65,7 +65,7 @@ step5-data-requires-2 c κs =
     let t = c .before .before in
     let a = t .before .before .before .before .before .before .before .before .args in
     let d = c .before .high-sends-on .ensures (c .if3 .taken) in
-    let l = both-long _ (length (now (a .low))) (length (now (a .high))) (t .before .before .before .before .before .if1 .left) in
+    let l = not-below (length (now (a .low))) _ (length (now (a .high))) _ (t .before .before .before .before .before .if1 .left) in
     (d .dataLeft, high-on (a .self) (d .bounds (high-is-on t)) _ (l .1) (high-is-on t))
 
 pub next-octet-spec : {M : Type 1} → statement M
