@@ -45,7 +45,7 @@ fn print(fd: i32, name: &[u8], output: Output) -> Output {
     let mut page = io::large_buffer();
     let mut first = [0u8; 2051];
     let mut second = [0u8; 2051];
-    let mut state = link::receiver::open(transcript::SETTINGS);
+    let mut state = transcript::opened();
     let mut reads = u64::MAX;
     while reads > 0 {
         if got <= 0 {

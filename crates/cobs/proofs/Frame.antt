@@ -11,6 +11,7 @@ use lib.Dec.{eqb}
 use lib.ListN.{length, take, drop, getD, replicate, length-drop, length-replicate, getD-replicate, take-append-drop, drop-of-length-le}
 use lib.Seq.{length-take-le, take-add, getD-take, getD-drop, drop-drop, ext-getD}
 use Rattle.cobs.specs.CodeBlocks.{withPhantom, flag, Choice, choice, Block, zerosIn, zerosAfter, Allowed, AllAllowed, decodedOctets, lineOctets, coveredBy, blockAt, blocksFrom, blocks, uninterrupted, readBlocks}
+use Rattle.cobs.specs.Frames.{WholeFrames}
 use Rattle.cobs.proofs.Tests.{decide}
 use Rattle.cobs.proofs.Leading.{EndsInZero}
 use Rattle.cobs.proofs.Phantom.{long, ends, ends-drop}
@@ -25,6 +26,11 @@ longest r = r + (r - 1) / 207
 pub longest-frame : (n : ℕ) → longest (n + 1) ≡ n + 1 + n / 207
 unfolding longest
 longest-frame n = ap (λ (i : ℕ). n + 1 + i / 207) (omega arith)
+
+-- with n octets more, where m octets of D were to come
+pub longest-part : (n m r : ℕ) → n ≤ m → m ≤ r → n + longest (r - m) ≤ longest r
+unfolding longest
+longest-part n m r h k = omega arith
 
 no-zero : (l : List ℕ) → ((i : ℕ) → i < length l → getD l i 0 ≡ 0 → ⊥) → List·Memᴰ 0 l → ⊥
 no-zero [] h m = List·Memᴰ·not-nil m
@@ -191,3 +197,13 @@ module _ (zxe : Bool) (f : List ℕ) where
   pub frame-end : (pos : ℕ) → length f < pos → blocks zxe (drop pos (withPhantom f)) ≡ []
   unfolding blocks
   frame-end pos h = ap (blocks zxe) (drop-of-length-le (withPhantom f) {i = pos} (omega (arith, long f))) ∙ blocks-from-none zxe 0
+
+pub whole-frames : WholeFrames
+whole-frames zxe f =
+    record {
+      allowed = frame-allowed zxe f;
+      decodes = frame-decodes zxe f;
+      flagless = frame-flagless zxe f;
+      back = frame-back zxe f;
+      most = frame-length zxe f;
+    }

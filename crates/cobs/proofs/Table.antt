@@ -7,6 +7,7 @@ use borrow.Author.Needs.{needs}
 use borrow.Author.Tests.{leb-true, eqb-true, le-leb, lt-leb, ne-eqb, not-false}
 use lib.Dec.{leb, eqb}
 use Rattle.cobs.specs.CodeBlocks.{Meaning, InTable, NotAgreed, NoCode, inRange, codeTable, meaning}
+use Rattle.cobs.specs.Frames.{TheTable}
 use Rattle.cobs.proofs.Tests.{branch, and-left, and-right}
 
 -- a code and a range of codes
@@ -150,3 +151,16 @@ numbers (plain-row k h) = search needs
 numbers full-row = search needs
 numbers (run-row z on h k) = search needs
 numbers (pair-row k on h) = search needs
+
+pub the-table : TheTable
+the-table =
+    record {
+      plain = plain;
+      full = λ zxe. full zxe 0xD0 refl;
+      runs = λ c. run true c refl;
+      pairs = λ c. pair true c refl;
+      notAgreed = λ c. not-agreed false c refl;
+      zero = λ zxe. unused zxe 0 refl;
+      reserved = reserved;
+      above = above;
+    }

@@ -1,1 +1,2 @@
 pub mod CodeBlocks
+pub mod Frames

@@ -46,7 +46,7 @@ fn count(fd: i32, name: &[u8]) -> Counted {
     let mut buffer = io::large_buffer();
     let mut first = [0u8; 2051];
     let mut second = [0u8; 2051];
-    let mut state = link::receiver::open(transcript::SETTINGS);
+    let mut state = transcript::opened();
     let mut counts = tally::empty();
     let mut got = libc::read(fd, &mut buffer);
     if got < 0 {

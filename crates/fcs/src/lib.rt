@@ -1,6 +1,6 @@
 // The check sequence, FCS (document 01, "Check sequence"; RFC 1662, 3.1 and C.2), of 16 bits.
 ghost use mathlib.Core.Path.{_≡_};
-ghost use Rattle.fcs.specs.CheckSequence.{check16, IsTable, IsStepTable, feed, register, fcs, good};
+ghost use Rattle.fcs.specs.CheckSequence.{check16, IsTable, IsStepTable, feed, register, fcs, good, Sound, FramesEndGood};
 
 mod tables;
 
@@ -91,3 +91,8 @@ pub fn good16(frame: &[u8]) -> bool
 {
     register16(frame) == 0xf0b8
 }
+
+// What is claimed of this crate: each theorem that docs/DEMANDS.md names.
+pub fn claims()
+    ensures { λ _. ⌜ Sound check16 × FramesEndGood check16 ⌝ }
+{}

@@ -8,9 +8,8 @@ use borrow.Author.Tests.{lt-ltb, le-ltb, ltb-true, ltb-false}
 use lib.Dec.{ltb}
 use lib.ListN.{length, length-append, set}
 use lib.Seq.{sets}
-use Rattle.fcs.specs.Notation.{if_then_else_}
 use Rattle.cobs.proofs.Tests.{decide}
-use Rattle.lines.specs.Lines.{digit, decimalIn, decimal}
+use Rattle.lines.specs.Lines.{digit, decimalIn, decimal, DecimalStep}
 use Rattle.lines.proofs.Stored.{sets-last}
 
 -- steps that are enough give the same digits
@@ -22,8 +21,7 @@ enough (suc s) (suc t) n h k =
     decide (ltb n 10) (λ e. rw e) (λ e.
     let ten : 10 ≤ n = ltb-false _ _ e in rw (e, enough s t (n / 10) (omega arith) (omega arith)))
 
--- A number below ten is its digit; any other has the digits of a tenth of it, and the digit of the remainder.
-pub decimal-step : (n : ℕ) → decimal n ≡ (if ltb n 10 then digit n ∷ [] else decimal (n / 10) ++ (digit (n % 10) ∷ []))
+pub decimal-step : DecimalStep
 unfolding decimal decimalIn
 decimal-step n =
     decide (ltb n 10) (λ e. rw e refl) (λ e.

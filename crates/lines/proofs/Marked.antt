@@ -1,17 +1,9 @@
 -- The lines that document 01 prints of its capture, and some numbers, computed.
-use mathlib.Core.Path.{_≡_, refl}
-use mathlib.Core.Bool.{true, false}
-use mathlib.Core.List.{[], _∷_, flatMap}
-use Rattle.link.specs.Answers.{packet, held, refused}
+use mathlib.Core.Path.{refl}
+use mathlib.Core.List.{flatMap}
 use Rattle.lines.specs.Lines.{digit, hexOctets, decimalIn, decimal, reportLine}
+use Rattle.lines.specs.Marked.{MarkedLines}
 
-pub marked :
-    (reportLine (held 3 false) [] ≡ 0x48 ∷ 0x20 ∷ 0x33 ∷ 0x20 ∷ 0x30 ∷ 0x0A ∷ [])
-    × (reportLine (packet true 9) (0x31 ∷ 0x32 ∷ 0x33 ∷ 0x34 ∷ 0x35 ∷ 0x36 ∷ 0x37 ∷ 0x38 ∷ 0x39 ∷ [])
-    ≡ 0x50 ∷ 0x20 ∷ 0x39 ∷ 0x20 ∷ 0x33 ∷ 0x31 ∷ 0x20 ∷ 0x33 ∷ 0x32 ∷ 0x20 ∷ 0x33 ∷ 0x33 ∷ 0x20 ∷ 0x33 ∷ 0x34 ∷ 0x20 ∷ 0x33 ∷ 0x35 ∷ 0x20 ∷ 0x33 ∷ 0x36 ∷ 0x20 ∷ 0x33 ∷ 0x37 ∷ 0x20 ∷ 0x33 ∷ 0x38 ∷ 0x20 ∷ 0x33 ∷ 0x39 ∷ 0x0A ∷ [])
-    × (reportLine (refused 13) [] ≡ 0x52 ∷ 0x20 ∷ 0x31 ∷ 0x33 ∷ 0x0A ∷ [])
-    × (hexOctets (0x7E ∷ 0xC0 ∷ []) ≡ 0x20 ∷ 0x37 ∷ 0x45 ∷ 0x20 ∷ 0x43 ∷ 0x30 ∷ [])
-    × (decimal 0 ≡ 0x30 ∷ [])
-    × (decimal 65535 ≡ 0x36 ∷ 0x35 ∷ 0x35 ∷ 0x33 ∷ 0x35 ∷ [])
+pub marked : MarkedLines
 unfolding reportLine hexOctets flatMap decimal decimalIn digit
-marked = (refl, refl, refl, refl, refl, refl)
+marked = record { lineH = refl; lineReplaced = refl; lineP = refl; lineR = refl; octets = refl; zero = refl; most = refl }

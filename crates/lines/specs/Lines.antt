@@ -1,7 +1,8 @@
 -- The text of what is reported (document 01, "Display, tally, capture program"), and the page that it is written into.
 use mathlib.Core.Bool.{Bool}
 use mathlib.Core.List.{List, [], _∷_, _++_, flatMap}
-use Prim.Native.Nat.{ℕ, zero, suc, _+_, _-_, _/_, _%_}
+use mathlib.Core.Path.{_≡_}
+use Prim.Native.Nat.{ℕ, zero, suc, _+_, _-_, _*_, _/_, _%_, _≤_, _<_}
 use lib.Dec.{leb, ltb}
 use lib.ListN.{length}
 use Rattle.fcs.specs.Notation.{if_then_else_}
@@ -47,9 +48,13 @@ unfoldable pub decimalIn : ℕ → ℕ → List ℕ
 decimalIn zero n = []
 decimalIn (suc steps) n = if ltb n 10 then digit n ∷ [] else decimalIn steps (n / 10) ++ (digit (n % 10) ∷ [])
 
--- n + 1 steps are enough, as each makes n less: see `decimal-step` of proofs/DecimalDigits.antt, which speaks of no steps.
+-- n + 1 steps are enough, as each makes n less: see `DecimalStep`, which speaks of no steps.
 unfoldable pub decimal : ℕ → List ℕ
 decimal n = decimalIn (suc n) n
+
+-- A number below ten is its digit; any other has the digits of a tenth of it, and the digit of the remainder (proofs/DecimalDigits.antt).
+abbrev pub DecimalStep : Type 0
+DecimalStep = (n : ℕ) → decimal n ≡ (if ltb n 10 then digit n ∷ [] else decimal (n / 10) ++ (digit (n % 10) ∷ []))
 
 -- ---- lines
 
@@ -78,3 +83,17 @@ reportLine quiet shown = []
 reportLine done shown = []
 reportLine (octet x) shown = []
 reportLine idle shown = []
+
+-- the number that a line tells
+abbrev pub number : Answer → ℕ
+number (packet inSecond n) = n
+number (held n replaced) = n
+number (refused n) = n
+number quiet = 0
+number done = 0
+number (octet x) = 0
+number idle = 0
+
+-- A line's most octets, where its number is one of 16 bits (proofs/Lengths.antt).
+abbrev pub ReportMost : Type 0
+ReportMost = (a : Answer) (shown : List ℕ) → number a < 65536 → length (reportLine a shown) ≤ 3 * length shown + 10

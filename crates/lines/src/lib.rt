@@ -5,7 +5,8 @@ ghost use mathlib.Core.List.{_∷_};
 ghost use Prim.Native.Nat.{_+_, _-_, _<_, _≤_};
 ghost use lib.ListN.{length};
 ghost use Rattle.link.specs.Answers.{reportAnswer};
-ghost use Rattle.lines.specs.Lines.{append, space, digit, hexOctets, decimal, textLine, packetLine, reportLine};
+ghost use Rattle.lines.specs.Lines.{append, space, digit, hexOctets, decimal, textLine, packetLine, reportLine, DecimalStep, ReportMost};
+ghost use Rattle.lines.specs.Marked.{MarkedLines};
 use link::receiver::Report;
 
 // How many octets of a page of that size are not filled.
@@ -163,3 +164,8 @@ pub fn report(given: Report, shown: &[u8], page: &mut [u8], filled: usize) -> us
         Report::Refused(n) => line(b'R', n as u64, b"\n", page, filled),
     }
 }
+
+// What is claimed of this crate: each theorem that docs/DEMANDS.md names.
+pub fn claims()
+    ensures { λ _. ⌜ DecimalStep × ReportMost × MarkedLines ⌝ }
+{}

@@ -1,191 +1,222 @@
--- Demand 2, one packet: a lane that nothing interrupts is closed after so many calls, and so the packet of a fresh sender is delivered.
-use mathlib.Core.Path.{_≡_, refl, sym, ap, subst, _∙_}
-use mathlib.Core.Bool.{Bool, true, false, not}
-use mathlib.Core.List.{List, [], _∷_, _++_}
+-- Demand 2, over any list of calls: lane by lane, what is loaded is what is closed and what the lane still holds; and so nothing is lost.
+use mathlib.Core.Path.{_≡_, refl, sym, ap, _∙_}
+use mathlib.Core.Bool.{Bool, true, false, cond, _&&_}
+use mathlib.Core.List.{List, [], _∷_, _++_, map, append-nil}
 use mathlib.Core.Option.{Option, none, some}
-use Prim.Native.Nat.{ℕ, zero, suc, _+_, _-_, _≤_, _<_}
+use Prim.Native.Nat.{ℕ, zero, suc, _+_, _/_, _≤_, _<_}
 use native.Mathlib.Omega.{arith}
-use borrow.Author.Tests.{le-ltb, lt-ltb}
-use lib.ListN.{length, replicate, drop, length-append, length-drop}
-use Rattle.cobs.specs.CodeBlocks.{frame, choice}
-use Rattle.cobs.proofs.Frame.{longest, longest-frame, block-cost}
+use borrow.Author.Tests.{le-ltb, lt-ltb, ne-eqb}
+use lib.ListN.{length, replicate}
+use Rattle.cobs.specs.CodeBlocks.{frame}
 use Rattle.link.specs.Agreed.{Agreed, agreed, leastPacket, largestFrame}
-use Rattle.link.specs.Sender.{Lane, low, high, OnLine, noLane, sending, LaneState, Step, emptyLane, laneD, laneArea, steps3To6, step2NoLane, steps1To6, next, putFrame, load}
-use Rattle.link.specs.Runs.{LoadedPacket, Station, Written, SenderCall, loading, nextOctet, freshStation, writes, written, closedPackets, gather, afterStep, afterNext, loadedBy, afterLoad}
-use Rattle.link.specs.Demands.{Delivery}
-use Rattle.link.proofs.Tests.{if-so, if-not}
-use Rattle.link.proofs.Way.{Advance, last, more, covers, opens, Way, ends, cuts, warns, goes, way, sender}
+use Rattle.link.specs.Answers.{idle, done}
+use Rattle.link.specs.Sender.{Lane, low, high, LaneState, Out, closes, breaksOff, sends, sendsNothing, refuses, laneArea, outAnswer, loaded, next, putFrame, load}
+use Rattle.link.specs.SenderParts.{SenderReady}
+use Rattle.link.specs.Receiver.{Receive}
+use Rattle.link.specs.Runs.{Station, Lanes, Written, SenderCall, loading, nextOctet, freshStation, lanePacket, lanesAfter, sameLane, isDone, loadedBy, afterLoad, afterNext, run, loadedInto, writes, written, writtenOctets, sentBy, atTrue, receives, packetIn, present, packetsIn, closedBy, closedPackets}
+use Rattle.link.specs.Progress.{BothEmpty, callsToEmpty}
+use Rattle.link.specs.Demands.{freshReceiver, LongEnough, NothingLoadedIsLost, Delivery}
 use Rattle.link.proofs.Follow.{frame-long}
 use Rattle.link.proofs.SenderBounds as bounds
-use Rattle.link.proofs.Sound.{station, Sound, stock-fits, sound-high, sound-low, sound-fresh, sound-load, enter-high, enter-low}
-use Rattle.link.proofs.Demands.{sound-line}
+use Rattle.link.proofs.Sound.{Stock, Sound, sound-fresh, sound-load, sound-next, sound-run}
+use Rattle.link.proofs.UnderWay.{run-append}
+use Rattle.link.proofs.Demands.{each-packet, sound-line}
+use Rattle.link.proofs.Progress.{ready-run, idle-if-empty, emptied}
 
--- At most so many octets are sent of a D of `size` octets and the phantom, where n data octets and z zeros of a block are to come.
-abbrev rest : ℕ → ℕ → ℕ → ℕ → ℕ
-rest size pos n z = n + longest (size + 1 - (pos + (n + z)))
+-- the packet of a lane, as a list of one or none
+abbrev asList : Option (List ℕ) → List (List ℕ)
+asList m = present (m ∷ [])
 
-module _ (g : Agreed) (q : LaneState) (a : List ℕ) (n z : ℕ) (fits : q .length ≤ length a) (even : n ≡ 0 → z ≡ 0) where
-  abbrev d : List ℕ
-  d = laneD q a
+-- what the octets of a lane close
+abbrev closing : Written → Option (List ℕ)
+closing x = closedBy (x .out) (x .sentFor)
 
-  left : length (drop (q .position) d) ≡ q .length + 1 - q .position
-  left = length-drop (q .position) d ∙ ap (λ (i : ℕ). i - q .position) (bounds.data-long g q a fits)
+abbrev closings : Lane → List Written → List (Option (List ℕ))
+closings l es = map closing (atTrue (sentBy l es) es)
 
-  whole : n ≡ 0 → rest (q .length) (q .position) n z ≡ longest (length (drop (q .position) d))
-  whole e =
-      let at : q .length + 1 - (q .position + (n + z)) ≡ length (drop (q .position) d) = omega (arith, even e, left) in
-      omega (arith, ap longest at)
+abbrev closedOf : Lane → List Written → List (List ℕ)
+closedOf l es = present (closings l es)
 
-  -- each octet of D leaves less to send
-  shrinks : (x pos n′ z′ : ℕ) → q .position ≤ q .length → Advance (g .zxe) d (q .position) n z x pos n′ z′
-      → rest (q .length) pos n′ z′ < rest (q .length) (q .position) n z
-  shrinks x pos n′ z′ h (last e) =
-      let at : q .length + 1 - (q .position + (1 + z) + (0 + 0)) ≡ q .length + 1 - (q .position + (n + z)) = omega arith in
-      omega (arith, ap longest at)
-  shrinks x pos n′ z′ h (more e f) =
-      let at : q .length + 1 - (q .position + 1 + (n - 1 + z)) ≡ q .length + 1 - (q .position + (n + z)) = omega arith in
-      omega (arith, ap longest at)
-  shrinks x pos n′ z′ h (covers e f) =
-      let r = drop (q .position) d in
-      let c = choice (g .zxe) r in
-      let at : q .length + 1 - (q .position + c .zeros + (n + z)) ≡ length r - (c .nonzeros + c .zeros) = omega (arith, even e, left) in
-      omega (arith, ap longest at, whole e, block-cost (g .zxe) r c (bounds.stands g q a fits h))
-  shrinks x pos n′ z′ h (opens e f) =
-      let r = drop (q .position) d in
-      let c = choice (g .zxe) r in
-      let at : q .length + 1 - (q .position + (c .nonzeros + c .zeros)) ≡ length r - (c .nonzeros + c .zeros) = omega (arith, left) in
-      omega (arith, ap longest at, whole e, block-cost (g .zxe) r c (bounds.stands g q a fits h))
+-- ---- lane by lane
 
-gather-none : {A : Type 0} (b : Bool) (xs : List A) → gather b none xs ≡ xs
-gather-none true xs = refl
-gather-none false xs = refl
+-- an empty lane holds no packet
+none-held : (g : Agreed) (q : LaneState) (a : List ℕ) (m : Option (List ℕ)) → Stock g q a m → q .length ≡ 0 → m ≡ none
+none-held g q a none st e = refl
+none-held g q a (some p) st e = absurd (omega (arith, st .long, st .big, frame-long g p))
 
--- what is written where a call went as st
-abbrev after : Station → Step → List SenderCall → List Written
-after w st cs = writes (st .out) w (written (afterStep false w st) cs)
+module _ (g : Agreed) (p : List ℕ) (w : Station) (i : Sound g w) (ys : List (List ℕ)) where
+  load-adds : (l k : Lane)
+      → asList (lanePacket l (afterLoad k p w .lanes)) ++ ys
+      ≡ asList (lanePacket l (w .lanes)) ++ cond (sameLane l k && isDone (load k p (w .end .state) (laneArea k (w .end)) .answer)) (p ∷ ys) ys
+  unfolding afterLoad putFrame
+  load-adds low low =
+      bounds.by-load g low p (w .end .state) (w .end .low)
+      (λ t. asList (loadedBy t low p w .lanes .low) ++ ys ≡ asList (w .lanes .low) ++ cond (true && isDone (t .answer)) (p ∷ ys) ys) (i .agrees) (λ _. refl)
+      (λ k. rw (none-held g (w .end .state .low) (w .end .low) (w .lanes .low) (i .stock·low) (k .free)))
+  load-adds low high =
+      bounds.by-load g high p (w .end .state) (w .end .high)
+      (λ t. asList (loadedBy t high p w .lanes .low) ++ ys ≡ asList (w .lanes .low) ++ cond (false && isDone (t .answer)) (p ∷ ys) ys) (i .agrees) (λ _. refl)
+      (λ _. refl)
+  load-adds high low =
+      bounds.by-load g low p (w .end .state) (w .end .low)
+      (λ t. asList (loadedBy t low p w .lanes .high) ++ ys ≡ asList (w .lanes .high) ++ cond (false && isDone (t .answer)) (p ∷ ys) ys) (i .agrees) (λ _. refl)
+      (λ _. refl)
+  load-adds high high =
+      bounds.by-load g high p (w .end .state) (w .end .high)
+      (λ t. asList (loadedBy t high p w .lanes .high) ++ ys ≡ asList (w .lanes .high) ++ cond (true && isDone (t .answer)) (p ∷ ys) ys) (i .agrees) (λ _. refl)
+      (λ k. rw (none-held g (w .end .state .high) (w .end .high) (w .lanes .high) (i .stock·high) (k .free)))
 
--- the packet is closed, alone, by at most f calls
-abbrev Closes : Station → List ℕ → ℕ → Type 0
-Closes w p f = (k : ℕ) × (k ≤ f) × (closedPackets (written w (replicate k nextOctet)) ≡ p ∷ [])
+one-first : (m : Option (List ℕ)) (os : List (Option (List ℕ))) (ys zs : List (List ℕ)) → present os ++ zs ≡ ys → present (m ∷ os) ++ zs ≡ asList m ++ ys
+one-first none os ys zs e = e
+one-first (some p) os ys zs e = ap (λ (l : List (List ℕ)). p ∷ l) e
 
-abbrev ClosesBy : Station → Step → List ℕ → ℕ → Type 0
-ClosesBy w st p f = (k : ℕ) × (k ≤ f) × (closedPackets (after w st (replicate k nextOctet)) ≡ p ∷ [])
+-- what a call writes takes from a lane the packet that it closes
+next-takes : (l : Lane) (o : Out) (w : Station) (es : List Written) (ys zs : List (List ℕ)) → closedOf l es ++ zs ≡ asList (lanePacket l (lanesAfter o (w .lanes))) ++ ys
+    → closedOf l (writes o w es) ++ zs ≡ asList (lanePacket l (w .lanes)) ++ ys
+next-takes low (closes low) w es ys zs h = one-first (w .lanes .low) (closings low es) ys zs h
+next-takes low (closes high) w es ys zs h = h
+next-takes high (closes low) w es ys zs h = h
+next-takes high (closes high) w es ys zs h = one-first (w .lanes .high) (closings high es) ys zs h
+next-takes low breaksOff w es ys zs h = h
+next-takes high breaksOff w es ys zs h = h
+next-takes low (sends low x) w es ys zs h = h
+next-takes low (sends high x) w es ys zs h = h
+next-takes high (sends low x) w es ys zs h = h
+next-takes high (sends high x) w es ys zs h = h
+next-takes low sendsNothing w es ys zs h = h
+next-takes high sendsNothing w es ys zs h = h
+next-takes low (refuses n) w es ys zs h = h
+next-takes high (refuses n) w es ys zs h = h
 
-from-call : (w : Station) (st : Step) (p : List ℕ) (f : ℕ) → next (w .end) ≡ st → ClosesBy w st p f → Closes w p (suc f)
-unfolding written afterNext
-from-call w st p f e c =
-    (suc (c .0), omega (arith, c .1), subst (λ (s : Step). closedPackets (after w s (replicate (c .0) nextOctet)) ≡ p ∷ []) (sym e) (c .2))
+lane-by-lane : (g : Agreed) (l : Lane) (w : Station) (cs : List SenderCall) → Sound g w
+    → closedOf l (written w cs) ++ asList (lanePacket l (run w cs .lanes)) ≡ asList (lanePacket l (w .lanes)) ++ loadedInto l w cs
+unfolding written run loadedInto afterNext
+lane-by-lane g l w [] i = sym (append-nil _)
+lane-by-lane g l w (loading k p ∷ cs) i =
+    lane-by-lane g l (afterLoad k p w) cs (sound-load g k p w i) ∙ load-adds g p w i (loadedInto l (afterLoad k p w) cs) l k
+lane-by-lane g l w (nextOctet ∷ cs) i =
+    next-takes l (next (w .end) .out) w (written (afterNext w) cs) _ _ (lane-by-lane g l (afterNext w) cs (sound-next g w i))
 
--- a call that isn't refused
-unrefused-next : (g : Agreed) (w : Station) → Sound g w → largestFrame g ≤ length (w .end .low) → largestFrame g ≤ length (w .end .high)
-    → next (w .end) ≡ steps1To6 g (w .end) (w .end .state .cut) (w .end .state .on)
-unfolding next
-unrefused-next g w s h k =
-    rw (
-      s .agrees,
-      le-ltb (length (w .end .low)) (largestFrame g) h,
-      le-ltb (length (w .end .high)) (largestFrame g) k,
-      bounds.in-bounds g (w .end .state) (s .in·bounds),
-    )
+-- ---- nothing is lost
 
-module _ (g : Agreed) (t : ℕ) (al ah : List ℕ) (h : largestFrame g ≤ length al) (k : largestFrame g ≤ length ah) (m : LoadedPacket) (new : m .begunUpToFlag ≡ false) where
-  -- the high lane, whatever the low one holds
-  high-way : (f : ℕ) (ql qh : LaneState) (n z : ℕ) (o : OnLine) (u : Bool) (bl : Option LoadedPacket)
-      → ((pos n′ z′ : ℕ) → rest (qh .length) pos n′ z′ < f
-      → Sound g (station (sender ql (record { length = qh .length; position = pos }) n′ z′ (sending high) u false t) al ah bl (some m))
-      → Closes (station (sender ql (record { length = qh .length; position = pos }) n′ z′ (sending high) u false t) al ah bl (some m)) (m .octets) f)
-      → rest (qh .length) (qh .position) n z < suc f
-      → Sound g (station (sender ql qh n z (sending high) u false t) al ah bl (some m))
-      → (st : Step) → Way g high (sender ql qh n z (sending high) u false t) (laneD qh ah) st
-      → ClosesBy (station (sender ql qh n z o u false t) al ah bl (some m)) st (m .octets) f
-  unfolding written
-  high-way f ql qh n z o u bl ih r s st (ends past) = (0, omega arith, rw new)
-  high-way f ql qh n z o u bl ih r s st (cuts short e pre urgent i) = bounds.low-high e
-  high-way f ql qh n z o u bl ih r s st (warns short e pre urgent i) = bounds.low-high e
-  high-way f ql qh n z o u bl ih r s st (goes x pos n′ z′ short v) =
-      let fits = stock-fits g qh ah (some m) (s .stock·high) in
-      let c =
-      ih pos n′ z′ (omega (arith, shrinks g qh ah n z fits (s .in·bounds .even) x pos n′ z′ short v))
-      (sound-high g false ql qh n z t al ah bl (some m) u s _ (goes x pos n′ z′ short v)) in
-      (c .0, c .1, gather-none (m .begunUpToFlag) _ ∙ c .2)
+loads-only : (l : Lane) (w : Station) (cs : List SenderCall) (n : ℕ) → loadedInto l w (cs ++ replicate n nextOctet) ≡ loadedInto l w cs
+unfolding loadedInto
+loads-only l w [] zero = refl
+loads-only l w [] (suc n) = loads-only l (afterNext w) [] n
+loads-only l w (loading k p ∷ cs) n = rw (loads-only l (afterLoad k p w) cs n)
+loads-only l w (nextOctet ∷ cs) n = loads-only l (afterNext w) cs n
 
-  high-ends : (f : ℕ) (ql qh : LaneState) (n z : ℕ) (u : Bool) (bl : Option LoadedPacket) → rest (qh .length) (qh .position) n z < f
-      → Sound g (station (sender ql qh n z (sending high) u false t) al ah bl (some m))
-      → Closes (station (sender ql qh n z (sending high) u false t) al ah bl (some m)) (m .octets) f
-  unfolding steps1To6
-  high-ends zero ql qh n z u bl r s = absurd (omega arith)
-  high-ends (suc f) ql qh n z u bl r s =
-      let w = station (sender ql qh n z (sending high) u false t) al ah bl (some m) in
-      from-call w _ (m .octets) f (unrefused-next g w s h k)
-      (high-way f ql qh n z (sending high) u bl (λ pos n′ z′ r′ s′. high-ends f ql _ n′ z′ u bl r′ s′) r s _
-      (way g (sender ql qh n z (sending high) u false t) (laneD qh ah) high))
+map-at-true : (f : Receive → Option (List ℕ)) (bs : List Bool) (hs : List Receive) → map f (atTrue bs hs) ≡ atTrue bs (map f hs)
+map-at-true f [] hs = refl
+map-at-true f (b ∷ bs) [] = refl
+map-at-true f (true ∷ bs) (h ∷ hs) = ap (λ (l : List (Option (List ℕ))). f h ∷ l) (map-at-true f bs hs)
+map-at-true f (false ∷ bs) (h ∷ hs) = map-at-true f bs hs
 
-  -- the low lane, with nothing in the high one
-  low-way : (f : ℕ) (ql qh : LaneState) (n z : ℕ) (o : OnLine) (bh : Option LoadedPacket) → qh .length ≡ 0
-      → ((pos n′ z′ : ℕ) → rest (ql .length) pos n′ z′ < f
-      → Sound g (station (sender (record { length = ql .length; position = pos }) qh n′ z′ (sending low) false false t) al ah (some m) bh)
-      → Closes (station (sender (record { length = ql .length; position = pos }) qh n′ z′ (sending low) false false t) al ah (some m) bh) (m .octets) f)
-      → rest (ql .length) (ql .position) n z < suc f
-      → Sound g (station (sender ql qh n z (sending low) false false t) al ah (some m) bh)
-      → (st : Step) → Way g low (sender ql qh n z (sending low) false false t) (laneD ql al) st
-      → ClosesBy (station (sender ql qh n z o false false t) al ah (some m) bh) st (m .octets) f
-  unfolding written
-  low-way f ql qh n z o bh none·high ih r s st (ends past) = (0, omega arith, rw new)
-  low-way f ql qh n z o bh none·high ih r s st (cuts short e pre urgent i) = absurd (omega arith)
-  low-way f ql qh n z o bh none·high ih r s st (warns short e pre urgent i) = absurd (omega arith)
-  low-way f ql qh n z o bh none·high ih r s st (goes x pos n′ z′ short v) =
-      let fits = stock-fits g ql al (some m) (s .stock·low) in
-      let c =
-      ih pos n′ z′ (omega (arith, shrinks g ql al n z fits (s .in·bounds .even) x pos n′ z′ short v))
-      (sound-low g false ql qh n z t al ah (some m) bh s _ (goes x pos n′ z′ short v)) in
-      (c .0, c .1, gather-none (m .begunUpToFlag) _ ∙ c .2)
+closings-at-true : (bs : List Bool) (es : List Written) → atTrue bs (map closing es) ≡ map closing (atTrue bs es)
+closings-at-true [] es = refl
+closings-at-true (b ∷ bs) [] = refl
+closings-at-true (true ∷ bs) (x ∷ es) = ap (λ (l : List (Option (List ℕ))). closing x ∷ l) (closings-at-true bs es)
+closings-at-true (false ∷ bs) (x ∷ es) = closings-at-true bs es
 
-  low-ends : (f : ℕ) (ql qh : LaneState) (n z : ℕ) (bh : Option LoadedPacket) → qh .length ≡ 0 → rest (ql .length) (ql .position) n z < f
-      → Sound g (station (sender ql qh n z (sending low) false false t) al ah (some m) bh)
-      → Closes (station (sender ql qh n z (sending low) false false t) al ah (some m) bh) (m .octets) f
-  unfolding steps1To6
-  low-ends zero ql qh n z bh e r s = absurd (omega arith)
-  low-ends (suc f) ql qh n z bh e r s =
-      let w = station (sender ql qh n z (sending low) false false t) al ah (some m) bh in
-      from-call w _ (m .octets) f (unrefused-next g w s h k)
-      (low-way f ql qh n z (sending low) bh e (λ pos n′ z′ r′ s′. low-ends f _ qh n′ z′ bh e r′ s′) r s _
-      (way g (sender ql qh n z (sending low) false false t) (laneD ql al) low))
+module _ (t : ℕ) (al ah first second : List ℕ) (long : LongEnough t al ah first second) where
+  abbrev fresh : Station
+  fresh = freshStation t al ah
 
-  -- a lane that comes on the line
-  high-first : (ql qh : LaneState) (n z : ℕ) (u : Bool) (bl : Option LoadedPacket) → 0 < qh .length
-      → Sound g (station (sender ql qh n z noLane u false t) al ah bl (some m))
-      → Closes (station (sender ql qh n z noLane u false t) al ah bl (some m)) (m .octets) (suc (rest (qh .length) (qh .position) n z))
-  unfolding steps1To6 step2NoLane
-  high-first ql qh n z u bl some·high s =
-      let w = station (sender ql qh n z noLane u false t) al ah bl (some m) in
-      let f = rest (qh .length) (qh .position) n z in
-      from-call w (steps3To6 g high (sender ql qh n z (sending high) u false t) (laneD qh ah)) (m .octets) f
-      (unrefused-next g w s h k ∙ if-so _ _ _ (lt-ltb 0 (qh .length) some·high))
-      (high-way f ql qh n z noLane u bl (λ pos n′ z′ r′ s′. high-ends f ql _ n′ z′ u bl r′ s′) (omega arith)
-      (enter-high g false ql qh n z t al ah bl (some m) u some·high s) _
-      (way g (sender ql qh n z (sending high) u false t) (laneD qh ah) high))
+  abbrev calls·for : List SenderCall → List Receive
+  calls·for cs = receives (freshReceiver t first second) (writtenOctets (written fresh cs))
 
-  low-first : (ql qh : LaneState) (n z : ℕ) (bh : Option LoadedPacket) → 0 < ql .length → qh .length ≡ 0
-      → Sound g (station (sender ql qh n z noLane false false t) al ah (some m) bh)
-      → Closes (station (sender ql qh n z noLane false false t) al ah (some m) bh) (m .octets) (suc (rest (ql .length) (ql .position) n z))
-  unfolding steps1To6 step2NoLane
-  low-first ql qh n z bh some·low e s =
-      let w = station (sender ql qh n z noLane false false t) al ah (some m) bh in
-      let f = rest (ql .length) (ql .position) n z in
-      from-call w (steps3To6 g low (sender ql qh n z (sending low) false false t) (laneD ql al)) (m .octets) f
-      (unrefused-next g w s h k
-      ∙ (if-not _ _ _ (le-ltb 0 (qh .length) (omega arith)) ∙ if-not _ _ _ (ap not (lt-ltb 0 (ql .length) some·low))))
-      (low-way f ql qh n z noLane bh e (λ pos n′ z′ r′ s′. low-ends f _ qh n′ z′ bh e r′ s′) (omega arith)
-      (enter-low g false ql qh n z t al ah (some m) bh some·low s) _
-      (way g (sender ql qh n z (sending low) false false t) (laneD ql al) low))
+  ready-fresh : SenderReady (fresh .end)
+  ready-fresh = record { low = long .low; high = long .high; bounds = bounds.in-bounds (agreed t) _ (sound-fresh t al ah .in·bounds) }
 
--- ---- a fresh sender takes the packet
+  -- the packets at a lane's octets are those that its octets close
+  told : (l : Lane) (cs : List SenderCall) → packetsIn (atTrue (sentBy l (written fresh cs)) (calls·for cs)) ≡ closedOf l (written fresh cs)
+  told l cs =
+      let es = written fresh cs in
+      let hs = calls·for cs in
+      ap present
+      (map-at-true packetIn (sentBy l es) hs
+      ∙ (ap (atTrue (sentBy l es)) (each-packet false es hs (sound-line t al ah first second (long .first) (long .second) cs .each)) ∙ closings-at-true (sentBy l es) es))
 
-module _ (t : ℕ) (p : List ℕ) (big : leastPacket ≤ length p) (small : length p ≤ agreed t .limit) where
-  takes : (l : Lane) (al ah : List ℕ) → largestFrame (agreed t) ≤ length al → largestFrame (agreed t) ≤ length ah
-      → afterLoad l p (freshStation t al ah) ≡ loadedBy (putFrame (agreed t) l p (freshStation t al ah .end .state) (laneArea l (freshStation t al ah .end))) l p (freshStation t al ah)
-  unfolding afterLoad load
-  takes low al ah h k =
+  module _ (cs : List SenderCall) (n : ℕ) (enough : callsToEmpty (run fresh cs .end .state) ≤ n) where
+    abbrev all : List SenderCall
+    all = cs ++ replicate n nextOctet
+
+    empty : BothEmpty (run fresh all .end .state)
+    empty = rw (run-append fresh cs (replicate n nextOctet)) (emptied (run fresh cs) (ready-run fresh cs ready-fresh) n enough)
+
+    ends-idle : outAnswer (next (run fresh all .end) .out) ≡ idle
+    ends-idle = idle-if-empty .always (run fresh all .end) (ready-run fresh all ready-fresh) empty
+
+    none-left : (l : Lane) → lanePacket l (run fresh all .lanes) ≡ none
+    none-left low = none-held (agreed t) _ _ _ (sound-run (agreed t) fresh all (sound-fresh t al ah) .stock·low) (empty .low)
+    none-left high = none-held (agreed t) _ _ _ (sound-run (agreed t) fresh all (sound-fresh t al ah) .stock·high) (empty .high)
+
+    none-before : (l : Lane) → lanePacket l (fresh .lanes) ≡ none
+    none-before low = refl
+    none-before high = refl
+
+    all-closed : (l : Lane) → closedOf l (written fresh all) ≡ loadedInto l fresh cs
+    all-closed l =
+        sym (append-nil _)
+        ∙ (ap (λ (m : Option (List ℕ)). closedOf l (written fresh all) ++ asList m) (sym (none-left l))
+        ∙ (lane-by-lane (agreed t) l fresh all (sound-fresh t al ah)
+        ∙ (ap (λ (m : Option (List ℕ)). asList m ++ loadedInto l fresh all) (none-before l) ∙ loads-only l fresh cs n)))
+
+    reported : (l : Lane) → packetsIn (atTrue (sentBy l (written fresh all)) (calls·for all)) ≡ loadedInto l fresh cs
+    reported l = told l all ∙ all-closed l
+
+pub nothing-lost : (settings : ℕ) → NothingLoadedIsLost settings
+nothing-lost t al ah first second long calls n enough = (
+  ends-idle t al ah first second long calls n enough,
+  reported t al ah first second long calls n enough,
+)
+
+-- ---- one packet
+
+abbrev other : Lane → Lane
+other low = high
+other high = low
+
+same-first : (m : Option (List ℕ)) (os os′ : List (Option (List ℕ))) → present os ≡ present os′ → present (m ∷ os) ≡ present (m ∷ os′)
+same-first none os os′ e = e
+same-first (some p) os os′ e = ap (λ (l : List (List ℕ)). p ∷ l) e
+
+none-first : (m : Option (List ℕ)) (os : List (Option (List ℕ))) → present (m ∷ os) ≡ [] → ((os′ : List (Option (List ℕ))) → present (m ∷ os′) ≡ present os′)
+    × (present os ≡ [])
+none-first none os e = (λ _. refl, e)
+none-first (some p) os e = absurd (let z : _≡_ {A = ℕ} 0 1 = cc in omega arith)
+
+-- where one lane closes nothing, all that is closed is the other's
+abbrev OneLane : Lane → List Written → Type 0
+OneLane l es = closedOf (other l) es ≡ [] → closedPackets es ≡ closedOf l es
+
+one-more : (l : Lane) (o : Out) (x : Written) (es : List Written) → x .out ≡ o → OneLane l es → OneLane l (x ∷ es)
+one-more low (closes low) x es q ih = rw q (λ e. same-first (x .sentFor) (map closing es) (closings low es) (ih e))
+one-more high (closes high) x es q ih = rw q (λ e. same-first (x .sentFor) (map closing es) (closings high es) (ih e))
+one-more low (closes high) x es q ih = rw q (λ e. let k = none-first (x .sentFor) (closings high es) e in k .0 (map closing es) ∙ ih (k .1))
+one-more high (closes low) x es q ih = rw q (λ e. let k = none-first (x .sentFor) (closings low es) e in k .0 (map closing es) ∙ ih (k .1))
+one-more low breaksOff x es q ih = rw q ih
+one-more high breaksOff x es q ih = rw q ih
+one-more low (sends low y) x es q ih = rw q ih
+one-more low (sends high y) x es q ih = rw q ih
+one-more high (sends low y) x es q ih = rw q ih
+one-more high (sends high y) x es q ih = rw q ih
+one-more low sendsNothing x es q ih = rw q ih
+one-more high sendsNothing x es q ih = rw q ih
+one-more low (refuses n) x es q ih = rw q ih
+one-more high (refuses n) x es q ih = rw q ih
+
+one-lane : (l : Lane) (es : List Written) → OneLane l es
+one-lane l [] = λ _. refl
+one-lane l (x ∷ es) = one-more l (x .out) x es refl (one-lane l es)
+
+module _ (t : ℕ) (al ah : List ℕ) (h : largestFrame (agreed t) ≤ length al) (k : largestFrame (agreed t) ≤ length ah) (p : List ℕ)
+    (big : leastPacket ≤ length p) (small : length p ≤ agreed t .limit) where
+  -- a fresh sender takes the packet
+  takes : (l : Lane) → load l p (freshStation t al ah .end .state) (laneArea l (freshStation t al ah .end))
+      ≡ putFrame (agreed t) l p (freshStation t al ah .end .state) (laneArea l (freshStation t al ah .end))
+  unfolding load
+  takes low =
       let g = agreed t in
       rw (
         le-ltb (length al) (largestFrame g) h,
@@ -193,7 +224,7 @@ module _ (t : ℕ) (p : List ℕ) (big : leastPacket ≤ length p) (small : leng
         le-ltb (length p) leastPacket big,
         le-ltb (g .limit) (length p) small,
       )
-  takes high al ah h k =
+  takes high =
       let g = agreed t in
       rw (
         le-ltb (length ah) (largestFrame g) k,
@@ -202,39 +233,36 @@ module _ (t : ℕ) (p : List ℕ) (big : leastPacket ≤ length p) (small : leng
         le-ltb (g .limit) (length p) small,
       )
 
-  area-kept : (a : List ℕ) → largestFrame (agreed t) ≤ length a
-      → largestFrame (agreed t) ≤ length (frame (agreed t .check) p ++ drop (length (frame (agreed t .check) p)) a)
-  area-kept a h =
-      let f = frame (agreed t .check) p in
-      omega (arith, length-append f (drop (length f) a), length-drop (length f) a, frame-long (agreed t) p)
+  loads-it : (l : Lane) → loadedInto l (freshStation t al ah) (loading l p ∷ []) ≡ p ∷ []
+  unfolding loadedInto putFrame
+  loads-it low = rw (takes low)
+  loads-it high = rw (takes high)
 
-  closes-fresh : (l : Lane) (al ah : List ℕ) → largestFrame (agreed t) ≤ length al → largestFrame (agreed t) ≤ length ah
-      → Closes (afterLoad l p (freshStation t al ah)) p (suc (rest (length (frame (agreed t .check) p)) 0 0 0))
-  unfolding putFrame
-  closes-fresh low al ah h k =
-      let g = agreed t in
-      let f = frame (g .check) p in
-      let e = takes low al ah h k in
-      let s = rw e at (sound-load g low p (freshStation t al ah) (sound-fresh t al ah)) in
-      rw e
-      (low-first g t (f ++ drop (length f) al) ah (area-kept al h) k (record { octets = p; begunUpToFlag = false }) refl
-      (record { length = length f; position = 0 }) emptyLane 0 0 none (omega (arith, frame-long g p)) refl s)
-  closes-fresh high al ah h k =
-      let g = agreed t in
-      let f = frame (g .check) p in
-      let e = takes high al ah h k in
-      let s = rw e at (sound-load g high p (freshStation t al ah) (sound-fresh t al ah)) in
-      rw e
-      (high-first g t al (f ++ drop (length f) ah) h (area-kept ah k) (record { octets = p; begunUpToFlag = false }) refl
-      emptyLane (record { length = length f; position = 0 }) 0 0 false none (omega (arith, frame-long g p)) s)
+  loads-no-other : (l : Lane) → loadedInto (other l) (freshStation t al ah) (loading l p ∷ []) ≡ []
+  unfolding loadedInto
+  loads-no-other low = refl
+  loads-no-other high = refl
+
+  -- so many calls are enough
+  calls-it : (l : Lane) → (let n = length (frame (agreed t .check) p) in
+      callsToEmpty (run (freshStation t al ah) (loading l p ∷ []) .end .state) ≤ n + 1 + n / 207 + 1)
+  unfolding run afterLoad putFrame
+  calls-it low =
+      let n = length (frame (agreed t .check) p) in
+      let some : n ≡ 0 → ⊥ = (λ e. omega (arith, frame-long (agreed t) p)) in
+      rw (takes low, ne-eqb n 0 some, lt-ltb 0 n (omega (arith, some))) (omega arith)
+  calls-it high =
+      let n = length (frame (agreed t .check) p) in
+      let some : n ≡ 0 → ⊥ = (λ e. omega (arith, frame-long (agreed t) p)) in
+      rw (takes high, ne-eqb n 0 some) (omega arith)
 
 pub delivery : (settings : ℕ) → Delivery settings
-unfolding written
-delivery t al ah first second h k h₁ h₂ l p big small =
-    let c = closes-fresh t p big small l al ah h k in
+delivery t al ah first second long l p big small =
     let n = length (frame (agreed t .check) p) in
-    let at : longest (n + 1 - (0 + (0 + 0))) ≡ longest (n + 1) = ap longest (omega arith) in (
-      c .0,
-      omega (arith, c .1, longest-frame n),
-      sound-line t al ah first second h₁ h₂ (loading l p ∷ replicate (c .0) nextOctet) .packets ∙ c .2,
-    )
+    let k = n + 1 + n / 207 + 1 in
+    let calls = loading l p ∷ [] in
+    let enough = calls-it t al ah (long .low) (long .high) p big small l in
+    let closed = all-closed t al ah first second long calls k enough in
+    sound-line t al ah first second (long .first) (long .second) (calls ++ replicate k nextOctet) .packets
+    ∙ (one-lane l (written (freshStation t al ah) (calls ++ replicate k nextOctet)) (closed (other l) ∙ loads-no-other t al ah (long .low) (long .high) p big small l)
+    ∙ (closed l ∙ loads-it t al ah (long .low) (long .high) p big small l))

@@ -20,8 +20,8 @@ use Rattle.cobs.proofs.Chosen.{Stands}
 use Rattle.cobs.proofs.Frame.{zeros-from}
 use Rattle.link.specs.Agreed.{Agreed, leastPacket, leastFrame, mostDecoded}
 use Rattle.link.specs.Answers.{held, packet, refused}
-use Rattle.link.specs.Receiver.{Fragment, holds, LastBlock, noBlock, blockD0, otherBlock, Receiver, Working, ReceiverEnd, withDue, step2BeginBlock, isNoBlock, isD0, write, step3Write, step3Decode, step3Data, lastBlock, step2ByMeaning, step2Code, step1ResumeHeld, step1D1, step1FirstOctet, steps1To4, isHeld, step5End, step5Hold, step5WithoutPhantom, step5Flag, atFlag, areaOf, work, putBack, flagged, receive}
-use Rattle.link.specs.Runs.{packetIn, HeldReport}
+use Rattle.link.specs.Receiver.{Fragment, holds, LastBlock, noBlock, blockD0, otherBlock, Receiver, Working, ReceiverEnd, withDue, step2BeginBlock, isNoBlock, isD0, write, step3Write, step3Decode, step3Data, lastBlock, step2ByMeaning, step2Code, step1ResumeHeld, step1D1, step1FirstOctet, steps1To4, isHeld, heldAfter, step5End, step5Hold, step5WithoutPhantom, step5Flag, atFlag, areaOf, work, putBack, flagged, receive}
+use Rattle.link.specs.Runs.{packetIn}
 use Rattle.link.proofs.Tests.{if-so, if-not, true-false}
 use Rattle.link.proofs.Write.{length-write, take-write}
 use Rattle.link.proofs.ReceiverBounds.{Bounds, Fit, Ready, receive-flag, steps-data}
@@ -89,7 +89,7 @@ module _ (g : Agreed) (d : List ℕ) (depth : length d ≤ mostDecoded g) where
   -- ---- a code
 
   module _ (pos : ℕ) (w : Working) (f : Fit g w) (fo : Follows d pos 0 0 w) where
-    code-opens : (c n z : ℕ) → Row (g .zxe) c n z → (n ≡ 0 → ⊥) → Ahead (lastBlock c) (n + z) (length d - pos) → Moved d pos n z w (steps1To4 g w c)
+    pub code-opens : (c n z : ℕ) → Row (g .zxe) c n z → (n ≡ 0 → ⊥) → Ahead (lastBlock c) (n + z) (length d - pos) → Moved d pos n z w (steps1To4 g w c)
     unfolding step2ByMeaning
     code-opens c n z row h ahd =
         let v = numbers row in
@@ -106,10 +106,36 @@ module _ (g : Agreed) (d : List ℕ) (depth : length d ≤ mostDecoded g) where
     pub code-two : Moved d pos 1 1 w (steps1To4 g w 0x02)
     code-two = code-opens 0x02 1 1 (plain-row 1 (omega arith)) (λ q. omega arith) tt
 
-    module _ (c : Choice) (ch : Stands (g .zxe) (drop pos d) c) where
-      no-D0 : c .nonzeros ≡ 0 → c .code ≡ 0xD0 → ⊥
-      no-D0 h q = let v = numbers (ch .row) in omega (arith, v .covers, v .full-zeros q)
+    -- a block without data: its zeros are decoded with the code
+    pub code-zeros : (c n z : ℕ) → Row (g .zxe) c n z → n ≡ 0 → pos + z ≤ length d → ((i : ℕ) → i < z → getD d (pos + i) 0 ≡ 0)
+        → Moved d (pos + z) 0 0 w (steps1To4 g w c)
+    unfolding step2ByMeaning
+    code-zeros c n z row h fits zeros =
+        let v = numbers row in
+        let w₁ : Working = record { state = step2BeginBlock (lastBlock c) 0 0 (w .state); area = w .area } in
+        let xs : List ℕ = replicate z 0 in
+        let size : length xs ≡ z = length-replicate z 0 in
+        let next : take (length xs) (drop pos d) ≡ xs = rw size (zeros-from d pos z fits zeros) in
+        let eq : steps1To4 g w c ≡ step3Write xs w₁ =
+        steps-code g w c (fo .clean) (fo .left·is) (v .code-used) (λ q. omega (arith, v .code-below))
+        ∙ (code-is g w c n z (row-read row)
+        ∙ (if-so _ _ _ (eq-eqb n 0 h) ∙ decodes pos xs w₁ (f .long) (fo .count) (fo .same) (omega arith) next)) in
+        rw eq
+        (record {
+          follows =
+              record {
+                clean = fo .clean;
+                count = omega (arith, fo .count);
+                same = subst (λ (k : ℕ). take (pos + k) (step3Write xs w₁ .area) ≡ take (pos + k) d) size (write-same pos xs w₁ (f .long) (fo .count) (fo .same) (omega arith) next);
+                left·is = refl;
+                zeros·is = refl;
+                ahead =
+                    branch (λ b. Ahead b 0 (length d - (pos + z))) (eqb c 0xD0) (λ e. absurd (omega (arith, v .covers, v .full-zeros (eqb-true c 0xD0 e)))) (λ _. tt);
+              };
+          keeps = record { held·is = refl; resumed·is = refl; turn·is = refl };
+        })
 
+    module _ (c : Choice) (ch : Stands (g .zxe) (drop pos d) c) where
       pub code-some : (c .nonzeros ≡ 0 → ⊥) → Moved d pos (c .nonzeros) (c .zeros) w (steps1To4 g w (c .code))
       code-some h =
           code-opens (c .code) (c .nonzeros) (c .zeros) (ch .row) h
@@ -118,33 +144,9 @@ module _ (g : Agreed) (d : List ℕ) (depth : length d ≤ mostDecoded g) where
           (λ _. tt))
 
       pub code-zero : c .nonzeros ≡ 0 → pos ≤ length d → Moved d (pos + c .zeros) 0 0 w (steps1To4 g w (c .code))
-      unfolding step2ByMeaning
       code-zero h within =
-          let v = numbers (ch .row) in
-          let z = c .zeros in
-          let w₁ : Working = record { state = step2BeginBlock (lastBlock (c .code)) 0 0 (w .state); area = w .area } in
-          let xs : List ℕ = replicate z 0 in
-          let size : length xs ≡ z = length-replicate z 0 in
-          let fits : pos + z ≤ length d = omega (arith, ch .inside, length-drop pos d) in
-          let next : take (length xs) (drop pos d) ≡ xs =
-          rw size (zeros-from d pos z fits (λ i k. sym (getD-drop pos d i 0) ∙ ch .zero i (omega arith) (omega arith))) in
-          let eq : steps1To4 g w (c .code) ≡ step3Write xs w₁ =
-          steps-code g w (c .code) (fo .clean) (fo .left·is) (v .code-used) (λ q. omega (arith, v .code-below))
-          ∙ (code-is g w (c .code) (c .nonzeros) z (row-read (ch .row))
-          ∙ (if-so _ _ _ (eq-eqb (c .nonzeros) 0 h) ∙ decodes pos xs w₁ (f .long) (fo .count) (fo .same) (omega arith) next)) in
-          rw eq
-          (record {
-            follows =
-                record {
-                  clean = fo .clean;
-                  count = omega (arith, fo .count);
-                  same = subst (λ (n : ℕ). take (pos + n) (step3Write xs w₁ .area) ≡ take (pos + n) d) size (write-same pos xs w₁ (f .long) (fo .count) (fo .same) (omega arith) next);
-                  left·is = refl;
-                  zeros·is = refl;
-                  ahead = branch (λ b. Ahead b 0 (length d - (pos + z))) (eqb (c .code) 0xD0) (λ e. absurd (no-D0 h (eqb-true (c .code) 0xD0 e))) (λ _. tt);
-                };
-            keeps = record { held·is = refl; resumed·is = refl; turn·is = refl };
-          })
+          code-zeros (c .code) (c .nonzeros) (c .zeros) (ch .row) h (omega (arith, ch .inside, length-drop pos d))
+          (λ i k. sym (getD-drop pos d i 0) ∙ ch .zero i (omega arith) (omega arith))
 
 -- ---- a data octet
 
@@ -335,7 +337,10 @@ module _ (g : Agreed) (e : ReceiverEnd) (z : Ready g e) where
     pub reports : packetIn (receive e flag) ≡ some p
     reports = rw delivers (ap some delivered)
 
-    -- what was held stays so
+    -- what was held stays so, unless the frame was a resumed one
+    pub delivers-held : receive e flag .after .state .held ≡ heldAfter r
+    delivers-held = rw delivers
+
     pub delivers-holding : (d : List ℕ) (pos : ℕ) → Holding d pos e → Holding d pos (receive e flag .after)
     delivers-holding d pos h =
         rw delivers (record { plain = refl; held·is = if-not _ _ _ (h .plain) ∙ h .held·is; same = h .same })
@@ -347,8 +352,8 @@ module _ (g : Agreed) (e : ReceiverEnd) (z : Ready g e) where
         step5-clean (fo .clean) (block-open (r .last) (n + y) (length d - pos) (omega arith) (fo .ahead))
         ∙ ap (flagged e) (if-so _ _ _ (lt-ltb 0 (r .left) (omega (arith, fo .left·is))) ∙ if-so _ _ _ pre)
 
-    pub breaks-held : HeldReport pos (receive e flag .report)
-    breaks-held = rw breaks-off (record { replaced = not (r .resumed) && isHeld (r .held); is = ap (λ (k : ℕ). held k (not (r .resumed) && isHeld (r .held))) (fo .count) })
+    pub breaks-held : receive e flag .report ≡ held pos (not (r .resumed) && isHeld (r .held))
+    breaks-held = rw breaks-off (ap (λ (k : ℕ). held k (not (r .resumed) && isHeld (r .held))) (fo .count))
 
     pub breaks-holding : Holding d pos (receive e flag .after)
     breaks-holding = rw breaks-off (record { plain = refl; held·is = ap holds (fo .count); same = not-not (r .turn) (fo .same) })

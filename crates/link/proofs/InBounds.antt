@@ -72,15 +72,15 @@ way-3 : (g : Agreed) (l : Lane) (s : Sender) (d : List ℕ) (st : Step) → Way 
 way-3 g l s d st (ends over) q = let n : _≡_ {A = ℕ} 0 1 = cc in omega arith
 way-3 g l s d st (cuts short e pre urgent f) q = let n : _≡_ {A = ℕ} 0 1 = cc in omega arith
 way-3 g l s d st (warns short e pre urgent f) q = let n : _≡_ {A = ℕ} 0 1 = cc in omega arith
-way-3 g l s d st (goes x pos n z short v) q = let n : _≡_ {A = ℕ} 0 1 = cc in omega arith
+way-3 g l s d st (goes x pos n z short v free) q = let n : _≡_ {A = ℕ} 0 1 = cc in omega arith
 
 turn-3 : (g : Agreed) (ql qh : LaneState) (n z t : ℕ) (al ah : List ℕ) (o : OnLine) (u c : Bool) (st : Step) → Turn g ql qh n z t al ah o u c st
     → outAnswer (st .out) ≡ refused 3 → ⊥
 turn-3 g ql qh n z t al ah o u c st cut·due q = let i : _≡_ {A = ℕ} 0 1 = cc in omega arith
-turn-3 g ql qh n z t al ah o u c st idles q = let i : _≡_ {A = ℕ} 0 1 = cc in omega arith
-turn-3 g ql qh n z t al ah o u c st (resumes·low h) q = let i : _≡_ {A = ℕ} 0 1 = cc in omega arith
+turn-3 g ql qh n z t al ah o u c st (idles h k) q = let i : _≡_ {A = ℕ} 0 1 = cc in omega arith
+turn-3 g ql qh n z t al ah o u c st (resumes·low k h) q = let i : _≡_ {A = ℕ} 0 1 = cc in omega arith
 turn-3 g ql qh n z t al ah o u c st (begins·high h w) q = way-3 g high _ _ st w q
-turn-3 g ql qh n z t al ah o u c st (begins·low h w) q = way-3 g low _ _ st w q
+turn-3 g ql qh n z t al ah o u c st (begins·low k h w) q = way-3 g low _ _ st w q
 turn-3 g ql qh n z t al ah o u c st (high·on w) q = way-3 g high _ _ st w q
 turn-3 g ql qh n z t al ah o u c st (low·on w) q = way-3 g low _ _ st w q
 
@@ -114,7 +114,7 @@ sender-3 g w (loading l p ∷ cs) s m =
     (sender-3 g (afterLoad l p w) cs (sound-load g l p w s)) (List·Memᴰ·cases-cons m)
 sender-3 g w (nextOctet ∷ cs) s m =
     ⊎-elim (λ q. next-3 g (w .end) (s .agrees) (sent.in-bounds g (w .end .state) (s .in·bounds)) (sym q))
-    (sender-3 g (afterNext true w) cs (sound-next g true w s)) (List·Memᴰ·cases-cons m)
+    (sender-3 g (afterNext w) cs (sound-next g w s)) (List·Memᴰ·cases-cons m)
 
 -- ---- the theorems
 

@@ -1,9 +1,9 @@
 -- The two ends in step after a flag: a call of the sender, and the receiver's call for the octet that it writes.
 use mathlib.Core.Path.{_≡_, refl, sym, ap, subst, subst₃, _∙_}
-use mathlib.Core.Bool.{Bool, true, false, not, _||_}
+use mathlib.Core.Bool.{Bool, true, false, cond, not, _&&_, _||_}
 use mathlib.Core.List.{List}
 use mathlib.Core.Option.{Option, none, some}
-use Prim.Native.Nat.{ℕ, _+_, _≤_, _<_}
+use Prim.Native.Nat.{ℕ, _+_, _-_, _≤_, _<_}
 use native.Mathlib.Omega.{arith}
 use lib.Dec.{ltb}
 use lib.ListN.{length, drop, getD}
@@ -13,21 +13,22 @@ use Rattle.cobs.proofs.Tests.{branch}
 use Rattle.cobs.proofs.Exchange.{no-flag, from-line, turned-back}
 use Rattle.cobs.proofs.Table.{numbers}
 use Rattle.link.specs.Agreed.{Agreed, largestFrame, mostDecoded}
-use Rattle.link.specs.Answers.{Answer, refused}
+use Rattle.link.specs.Answers.{Answer, held, refused}
 use Rattle.link.specs.Sender.{Lane, low, high, OnLine, noLane, sending, LaneState, Out, closes, breaksOff, sends, sendsNothing, refuses, Step, laneD, loaded, inBounds, next, putFrame}
-use Rattle.link.specs.Receiver.{Working, ReceiverEnd, Receive, work, putBack, steps1To4, receive}
-use Rattle.link.specs.Runs.{LoadedPacket, Lanes, Station, lanePacket, noteBegun, afterLoad, afterStep, afterNext, Arrives, AsExpected}
-use Rattle.link.proofs.Tests.{true-false}
-use Rattle.link.proofs.Way.{Advance, last, more, covers, opens, Way, ends, cuts, warns, goes, sender, Turn, cut·due, idles, resumes·low, begins·high, begins·low, high·on, low·on, turn}
+use Rattle.link.specs.Receiver.{Fragment, nothingHeld, holds, Receiver, Working, ReceiverEnd, Receive, isHeld, heldAfter, work, putBack, steps1To4, receive}
+use Rattle.link.specs.Runs.{Lanes, Station, lanePacket, afterLoad, afterStep, afterNext, Written, endsItsFrame, asideAfter, replacesAfter, Arrives, ExpectedReport}
+use Rattle.link.proofs.Tests.{true-false, false-true}
+use Rattle.link.proofs.Way.{Advance, last, more, covers, opens, Way, ends, cuts, warns, goes, sender, Turn, cut·due, idles, resumes·low, begins·high, begins·low, high·on, low·on, by-next}
 use Rattle.link.proofs.ReceiverBounds.{Ready, OfFrame, fit-work, receive-other, flag-ends, other-passes}
-use Rattle.link.proofs.Follow.{Follows, Moved, BlockAt, Holding, follows-back, keeps-holding, code-zero, code-some, code-two, data-last, data-more, reports, delivers-holding, breaks-held, breaks-holding, resumes, starts}
+use Rattle.link.proofs.Follow.{Follows, Moved, BlockAt, Holding, follows-back, keeps-holding, code-zero, code-some, code-two, data-last, data-more, reports, delivers-held, delivers-holding, breaks-held, breaks-holding, resumes, starts}
+use Rattle.link.proofs.Resumed.{InStep, in-step-at, code-in-step, data-in-step, D1-in-step, leaves-nothing}
 use Rattle.link.proofs.SenderBounds as bounds
-use Rattle.link.proofs.Sound.{station, StockOf, Stock, NotBegun, Waiting, Sound, stock-fits, by-load, low-is-off, high-is-off, enter-high, enter-low}
+use Rattle.link.proofs.Sound.{station, StockOf, Stock, Waiting, Sound, stock-fits, by-load, low-is-off, high-is-off, enter-high, enter-low}
 
 -- ---- an octet that is sent, as the receiver takes it
 
 module _ (g : Agreed) (e : ReceiverEnd) (z : Ready g e) (x : ℕ) where
-  passes : (x ≡ 0 → ⊥) → receive e (toLine x) .after ≡ putBack e (steps1To4 g (work e) x)
+  pub passes : (x ≡ 0 → ⊥) → receive e (toLine x) .after ≡ putBack e (steps1To4 g (work e) x)
   passes h =
       ap (λ (k : Receive). k .after) (receive-other g e z (toLine x) (no-flag x))
       ∙ ap (λ (y : ℕ). putBack e (steps1To4 g (work e) y)) (turned-back x h)
@@ -39,16 +40,29 @@ module _ (g : Agreed) (e : ReceiverEnd) (z : Ready g e) (x : ℕ) where
 pub follows-at : (d : List ℕ) (w : Working) {pos pos′ n n′ z z′ : ℕ} → pos ≡ pos′ → n ≡ n′ → z ≡ z′ → Follows d pos n z w → Follows d pos′ n′ z′ w
 follows-at d w e f g fo = subst₃ (λ i j k. Follows d i j k w) e f g fo
 
+-- whether something is held, in a frame that is no resumed one or out of a frame
+pub record HeldIs (s : Bool) (e : ReceiverEnd) : Type 0 where
+  pub plain : e .state .resumed ≡ false
+  pub is : isHeld (e .state .held) ≡ s
+
+-- whether the fragment of this frame, were it broken off, would take an older one's place
+abbrev pub Replaces : Bool → ReceiverEnd → Type 0
+Replaces s e = (not (e .state .resumed) && isHeld (e .state .held)) ≡ s
+
 -- what an octet of a lane's D leaves: the receiver still follows, and what it held it holds
 pub record Went (d : List ℕ) (pos n z : ℕ) (e e′ : ReceiverEnd) : Type 0 where
   pub follows : Follows d pos n z (work e′)
   pub holding : (d′ : List ℕ) (pos′ : ℕ) → Holding d′ pos′ e → Holding d′ pos′ e′
+  pub held : (s : Bool) → HeldIs s e → HeldIs s e′
+  pub replaces : (s : Bool) → Replaces s e → Replaces s e′
 
 went : (d : List ℕ) (pos n z : ℕ) (e : ReceiverEnd) (w : Working) → Moved d pos n z (work e) w → Went d pos n z e (putBack e w)
 went d pos n z e w m =
     record {
       follows = follows-back d pos n z e w (m .keeps .turn·is) (m .follows);
       holding = λ d′ pos′ h. keeps-holding d′ pos′ e w (m .keeps) h;
+      held = λ s h. record { plain = m .keeps .resumed·is ∙ h .plain; is = ap isHeld (m .keeps .held·is) ∙ h .is };
+      replaces = λ s h. rw (m .keeps .resumed·is, m .keeps .held·is) h;
     }
 
 -- the lane on the line and the receiver move alike
@@ -94,54 +108,78 @@ module _ (g : Agreed) (q : LaneState) (a : List ℕ) (n z : ℕ) (fits : q .leng
       (went d _ _ _ e _ (code-some g d depth (q .position) (work e) (fit-work g e r) (none-left k) _ ch l))
 
   -- 02 before a cut
-  pub heard-two : n ≡ 0 → Follows d (q .position) 1 1 (work (receive e 0x02 .after))
+  pub heard-two : n ≡ 0 → Went d (q .position) 1 1 e (receive e 0x02 .after)
   heard-two h =
       rw (passes-plain g e r 0x02 (λ s. omega arith) (λ s. omega arith))
-      (went d (q .position) 1 1 e _ (code-two g d depth (q .position) (work e) (fit-work g e r) (none-left h)) .follows)
+      (went d (q .position) 1 1 e _ (code-two g d depth (q .position) (work e) (fit-work g e r) (none-left h)))
+
+-- a packet that was under way at the chosen flag: the receiver is in step with its blocks
+module _ (g : Agreed) (q : LaneState) (a : List ℕ) (n z : ℕ) (fits : q .length ≤ length a) (b : BlockAt (laneD q a) (q .position) n z)
+    (e : ReceiverEnd) (r : Ready g e) (i : InStep n (e .state)) where
+  nonzero : 0 < n → getD (laneD q a) (q .position) 0 ≡ 0 → ⊥
+  nonzero h s = b .nonzero 0 h (ap (λ (j : ℕ). getD (laneD q a) j 0) (omega arith) ∙ s)
+
+  pub in-step : (x pos n′ z′ : ℕ) → q .position ≤ q .length → Advance (g .zxe) (laneD q a) (q .position) n z x pos n′ z′
+      → InStep n′ (receive e (toLine x) .after .state)
+  in-step x pos n′ z′ h (last k) =
+      rw (passes g e r x (nonzero (omega arith)))
+      (in-step-at (n - 1) 0 _ (omega arith) (data-in-step g (work e) n i x (omega arith)))
+  in-step x pos n′ z′ h (more k l) = rw (passes g e r x (nonzero k)) (data-in-step g (work e) n i x k)
+  in-step x pos n′ z′ h (covers k l) =
+      let ch = bounds.stands g q a fits h in
+      rw (passes g e r x (λ s. omega (arith, numbers (ch .row) .code-some)))
+      (in-step-at _ n _ (l ∙ sym k) (code-in-step g (work e) n i x _ _ (ch .row) k))
+  in-step x pos n′ z′ h (opens k l) =
+      let ch = bounds.stands g q a fits h in
+      rw (passes g e r x (λ s. omega (arith, numbers (ch .row) .code-some))) (code-in-step g (work e) n i x _ _ (ch .row) k)
 
 -- ---- in step
 
--- what the receiver holds of a suspended packet that was begun after the chosen flag
-abbrev pub HeldLow : Bool → Option LoadedPacket → LaneState → List ℕ → ReceiverEnd → Type 0
-HeldLow true m q a e = NotBegun m → Holding (laneD q a) (q .position) e
-HeldLow false m q a e = Unit {0}
+-- What the receiver holds, with low off the line: of a suspended packet begun after the chosen flag its covered octets; of one under way at the
+-- flag (`aside`) whatever it may be. Where low is not suspended, `s` says whether an older fragment is held.
+abbrev pub HeldLow : (suspended aside : Bool) → Bool → LaneState → List ℕ → ReceiverEnd → Type 0
+HeldLow true false s q a e = (s ≡ false) × Holding (laneD q a) (q .position) e
+HeldLow true true s q a e = s ≡ false
+HeldLow false b s q a e = (b ≡ false) × HeldIs s e
 
--- With no lane on the line the receiver is out of a frame. With one on the line it follows, unless that lane sends the packet that was
--- suspended at the chosen flag.
-abbrev pub Along : OnLine → Bool → Bool → Station → ReceiverEnd → Type 0
-Along noLane u c w e = (e .state .framed ≡ false) × HeldLow u (w .lanes .low) (w .end .state .low) (w .end .low) e
-Along (sending high) u c w e =
+-- With low on the line the receiver follows; if its packet was under way at the chosen flag, it is only in step with its blocks.
+abbrev pub OnLow : (aside cut : Bool) → Bool → LaneState → List ℕ → ℕ → ℕ → ReceiverEnd → Type 0
+OnLow false false s q a n z e = Follows (laneD q a) (q .position) n z (work e) × Replaces s e
+OnLow false true s q a n z e = Follows (laneD q a) (q .position) 1 1 (work e) × Replaces s e
+OnLow true false s q a n z e = (s ≡ false) × InStep n (e .state)
+OnLow true true s q a n z e = s ≡ false
+
+-- With no lane on the line the receiver is out of a frame, with the high one it follows.
+abbrev pub Along : OnLine → (suspended cut aside : Bool) → Bool → Station → ReceiverEnd → Type 0
+Along noLane u c b s w e = (e .state .framed ≡ false) × HeldLow u b s (w .end .state .low) (w .end .low) e
+Along (sending high) u c b s w e =
     Follows (laneD (w .end .state .high) (w .end .high)) (w .end .state .high .position) (w .end .state .left) (w .end .state .zeros) (work e)
-    × HeldLow u (w .lanes .low) (w .end .state .low) (w .end .low) e
-Along (sending low) u false w e =
-    NotBegun (w .lanes .low)
-    → Follows (laneD (w .end .state .low) (w .end .low)) (w .end .state .low .position) (w .end .state .left) (w .end .state .zeros) (work e)
-Along (sending low) u true w e =
-    NotBegun (w .lanes .low) → Follows (laneD (w .end .state .low) (w .end .low)) (w .end .state .low .position) 1 1 (work e)
+    × HeldLow u b s (w .end .state .low) (w .end .low) e
+Along (sending low) u c b s w e = OnLow b c s (w .end .state .low) (w .end .low) (w .end .state .left) (w .end .state .zeros) e
 
-pub record Lock (g : Agreed) (w : Station) (e : ReceiverEnd) : Type 0 where
+-- b: the low packet is the one that was under way at the chosen flag, m; s: the next fragment that is held takes an older one's place
+pub record Lock (g : Agreed) (m : Option (List ℕ)) (b s : Bool) (w : Station) (e : ReceiverEnd) : Type 0 where
   pub ready : Ready g e
-  pub not-begun : NotBegun (w .lanes .high)
-  pub along : Along (w .end .state .on) (w .end .state .suspended) (w .end .state .cut) w e
+  pub whose : b ≡ true → w .lanes .low ≡ m
+  pub along : Along (w .end .state .on) (w .end .state .suspended) (w .end .state .cut) b s w e
 
--- What a call of the sender must lead to: `b` the lanes and `k` the low position before it, `w` the station after it.
-abbrev pub Leads : Agreed → Out → Lanes → ℕ → Station → ReceiverEnd → Type 0
-Leads g (closes l) b k w e =
-    AsExpected (record { out = closes l; octet = flag; sentFor = lanePacket l b; lowPosition = k }) (receive e flag) × Lock g w (receive e flag .after)
-Leads g breaksOff b k w e =
-    AsExpected (record { out = breaksOff; octet = flag; sentFor = b .low; lowPosition = k }) (receive e flag) × Lock g w (receive e flag .after)
-Leads g (sends l x) b k w e =
-    AsExpected (record { out = sends l x; octet = x; sentFor = lanePacket l b; lowPosition = k }) (receive e x) × Lock g w (receive e x .after)
-Leads g sendsNothing b k w e = Lock g w e
-Leads g (refuses n) b k w e = Lock g w e
+-- what is shown of an octet and the receiver's call for it
+pub record Answered (m : Option (List ℕ)) (b s : Bool) (x : Written) (h : Receive) : Type 0 where
+  pub arrives : Arrives (h .report)
+  pub expected : endsItsFrame b (x .out) ≡ false → ExpectedReport s (x .out) (x .sentFor) (x .lowPosition) h
+  pub aside : endsItsFrame b (x .out) ≡ true → (x .sentFor ≡ m) × (replacesAfter s (x .out) ≡ s)
 
-not-begun-back : (m : Option LoadedPacket) → NotBegun (noteBegun false m) → NotBegun m
-not-begun-back none y = y
-not-begun-back (some m) y = y
+-- what a call of the sender must lead to: w the station before it, w′ after it
+abbrev pub LedBy : Agreed → Option (List ℕ) → Bool → Bool → Written → Station → ReceiverEnd → Type 0
+LedBy g m b s x w′ e =
+    Answered m b s x (receive e (x .octet)) × Lock g m (asideAfter b (x .out)) (replacesAfter s (x .out)) w′ (receive e (x .octet) .after)
 
-not-begun-on : (m : Option LoadedPacket) → NotBegun m → NotBegun (noteBegun false m)
-not-begun-on none y = y
-not-begun-on (some m) y = y
+abbrev pub Leads : Agreed → Option (List ℕ) → Bool → Bool → Out → Lanes → ℕ → Station → ReceiverEnd → Type 0
+Leads g m b s (closes l) v k w′ e = LedBy g m b s (record { out = closes l; octet = flag; sentFor = lanePacket l v; lowPosition = k }) w′ e
+Leads g m b s breaksOff v k w′ e = LedBy g m b s (record { out = breaksOff; octet = flag; sentFor = v .low; lowPosition = k }) w′ e
+Leads g m b s (sends l x) v k w′ e = LedBy g m b s (record { out = sends l x; octet = x; sentFor = lanePacket l v; lowPosition = k }) w′ e
+Leads g m b s sendsNothing v k w′ e = Lock g m b s w′ e
+Leads g m b s (refuses n) v k w′ e = Lock g m b s w′ e
 
 arrives : (a : Answer) → OfFrame a → Arrives a
 arrives a t =
@@ -151,50 +189,64 @@ arrives a t =
     }
 
 -- an octet that is no flag
-expected-send : (g : Agreed) (l : Lane) (x : ℕ) (m : Option LoadedPacket) (k : ℕ) (e : ReceiverEnd) → Ready g e → (x ≡ flag → ⊥)
-    → AsExpected (record { out = sends l x; octet = x; sentFor = m; lowPosition = k }) (receive e x)
-expected-send g l x m k e z f =
+quiet-send : (g : Agreed) (l : Lane) (x : ℕ) (m n : Option (List ℕ)) (b s : Bool) (k : ℕ) (e : ReceiverEnd) → Ready g e → (x ≡ flag → ⊥)
+    → Answered n b s (record { out = sends l x; octet = x; sentFor = m; lowPosition = k }) (receive e x)
+quiet-send g l x m n b s k e z f =
     let p = other-passes g e x f z in
-    record { arrives = arrives _ (subst OfFrame (sym (p .silent)) tt); expected = p .silent }
+    record { arrives = arrives _ (subst OfFrame (sym (p .silent)) tt); expected = λ _. p .silent; aside = λ q. false-true q }
+
+-- a flag that ends a frame of the packet that was under way
+aside-flag : (g : Agreed) (o : Out) (m n : Option (List ℕ)) (s : Bool) (k : ℕ) (e : ReceiverEnd) → Ready g e → endsItsFrame true o ≡ true → m ≡ n → replacesAfter s o ≡ s
+    → Answered n true s (record { out = o; octet = flag; sentFor = m; lowPosition = k }) (receive e flag)
+aside-flag g o m n s k e z f w i =
+    record { arrives = arrives _ (flag-ends g e z .tells); expected = λ q. true-false (sym f ∙ q); aside = λ _. (w, i) }
 
 module _ (g : Agreed) (law : check.Sound (g .check)) (q : LaneState) (a : List ℕ) (e : ReceiverEnd) (z : Ready g e) where
-  whole-frame : (m : LoadedPacket) → StockOf g q a m → Follows (laneD q a) (q .length + 1) 0 0 (work e)
-      → Follows (withPhantom (frame (g .check) (m .octets))) (length (frame (g .check) (m .octets)) + 1) 0 0 (work e)
-  whole-frame m st fo =
-      subst (λ (i : ℕ). Follows (withPhantom (frame (g .check) (m .octets))) (i + 1) 0 0 (work e)) (st .long)
+  whole-frame : (p : List ℕ) → StockOf g q a p → Follows (laneD q a) (q .length + 1) 0 0 (work e)
+      → Follows (withPhantom (frame (g .check) p)) (length (frame (g .check) p) + 1) 0 0 (work e)
+  whole-frame p st fo =
+      subst (λ (i : ℕ). Follows (withPhantom (frame (g .check) p)) (i + 1) 0 0 (work e)) (st .long)
       (subst (λ (f : List ℕ). Follows (withPhantom f) (q .length + 1) 0 0 (work e)) (st .same) fo)
 
-  -- a closing flag
-  expected-close : (l : Lane) (m : Option LoadedPacket) (k : ℕ) → Stock g q a m → 0 < q .length
-      → (NotBegun m → Follows (laneD q a) (q .length + 1) 0 0 (work e))
-      → AsExpected (record { out = closes l; octet = flag; sentFor = m; lowPosition = k }) (receive e flag)
-  expected-close l none k st h fo = absurd (omega arith)
-  expected-close l (some m) k st h fo =
-      record {
-        arrives = arrives _ (flag-ends g e z .tells);
-        expected = λ y. reports g e z (m .octets) law (st .big) (whole-frame m st (fo y));
-      }
+  -- a closing flag: the packet, and what was held
+  closed : (l : Lane) (m : Option (List ℕ)) (s : Bool) (k : ℕ) → Stock g q a m → 0 < q .length → Follows (laneD q a) (q .length + 1) 0 0 (work e)
+      → ExpectedReport s (closes l) m k (receive e flag)
+  closed l none s k st h fo = absurd (omega arith)
+  closed l (some p) s k st h fo = reports g e z p law (st .big) (whole-frame p st fo)
 
-  holds-closes : (m : Option LoadedPacket) → Stock g q a m → 0 < q .length → Follows (laneD q a) (q .length + 1) 0 0 (work e)
+  closed-answer : (l : Lane) (m n : Option (List ℕ)) (b s : Bool) (k : ℕ) → endsItsFrame b (closes l) ≡ false → Stock g q a m → 0 < q .length
+      → Follows (laneD q a) (q .length + 1) 0 0 (work e)
+      → Answered n b s (record { out = closes l; octet = flag; sentFor = m; lowPosition = k }) (receive e flag)
+  closed-answer l m n b s k f st h fo =
+      record { arrives = arrives _ (flag-ends g e z .tells); expected = λ _. closed l m s k st h fo; aside = λ i. false-true (sym f ∙ i) }
+
+  closed-holding : (m : Option (List ℕ)) → Stock g q a m → 0 < q .length → Follows (laneD q a) (q .length + 1) 0 0 (work e)
       → (d : List ℕ) (pos : ℕ) → Holding d pos e → Holding d pos (receive e flag .after)
-  holds-closes none st h fo d pos hd = absurd (omega arith)
-  holds-closes (some m) st h fo d pos hd = delivers-holding g e z (m .octets) law (st .big) (whole-frame m st fo) d pos hd
+  closed-holding none st h fo d pos hd = absurd (omega arith)
+  closed-holding (some p) st h fo d pos hd = delivers-holding g e z p law (st .big) (whole-frame p st fo) d pos hd
 
-  -- a flag that breaks off
-  expected-break : (m : Option LoadedPacket) (n y : ℕ) → Stock g q a m → 0 < q .length → g .pre ≡ true → 0 < n
-      → (NotBegun m → Follows (laneD q a) (q .position) n y (work e))
-      → AsExpected (record { out = breaksOff; octet = flag; sentFor = m; lowPosition = q .position }) (receive e flag)
-  expected-break none n y st h pre left fo = absurd (omega arith)
-  expected-break (some m) n y st h pre left fo =
+  closed-held : (m : Option (List ℕ)) (s : Bool) → Stock g q a m → 0 < q .length → Follows (laneD q a) (q .length + 1) 0 0 (work e) → Replaces s e
+      → HeldIs s (receive e flag .after)
+  closed-held none s st h fo k = absurd (omega arith)
+  closed-held (some p) s st h fo k =
+      let end = flag-ends g e z in
       record {
-        arrives = arrives _ (flag-ends g e z .tells);
-        expected = λ k. breaks-held g e z (laneD q a) (q .position) n y (fo k) left pre;
+        plain = end .ready .bounds .out (end .out) .resumed·0;
+        is = ap isHeld (delivers-held g e z p law (st .big) (whole-frame p st fo)) ∙ (still (e .state .resumed) (e .state .held) ∙ k);
       }
+    where
+      still : (b : Bool) (h : Fragment) → isHeld (cond b nothingHeld h) ≡ (not b && isHeld h)
+      still true h = refl
+      still false h = refl
 
-held-on : (u : Bool) (m : Option LoadedPacket) (q : LaneState) (a : List ℕ) (e e′ : ReceiverEnd) → ((d : List ℕ) (pos : ℕ) → Holding d pos e → Holding d pos e′)
-    → HeldLow u m q a e → HeldLow u m q a e′
-held-on true m q a e e′ k h = λ y. k (laneD q a) (q .position) (h y)
-held-on false m q a e e′ k h = h
+plain-replaces : (s : Bool) (e : ReceiverEnd) → HeldIs s e → Replaces s e
+plain-replaces s e h = rw (h .plain) (h .is)
+
+held-on : (u b s : Bool) (q : LaneState) (a : List ℕ) (e e′ : ReceiverEnd) → ((d : List ℕ) (pos : ℕ) → Holding d pos e → Holding d pos e′) → (HeldIs s e → HeldIs s e′)
+    → HeldLow u b s q a e → HeldLow u b s q a e′
+held-on true false s q a e e′ k i h = (h .0, k (laneD q a) (q .position) (h .1))
+held-on true true s q a e e′ k i h = h
+held-on false b s q a e e′ k i h = (h .0, i (h .1))
 
 -- D is covered
 all-covered : (q : LaneState) (a : List ℕ) (n z : ℕ) (e : ReceiverEnd) → q .length < q .position → bounds.Room q n z
@@ -202,89 +254,147 @@ all-covered : (q : LaneState) (a : List ℕ) (n z : ℕ) (e : ReceiverEnd) → q
 all-covered q a n z e h r fo =
     follows-at (laneD q a) (work e) (omega (arith, r .room)) (omega (arith, r .room)) (omega (arith, r .room)) fo
 
-module _ (g : Agreed) (law : check.Sound (g .check)) (ql qh : LaneState) (n z t : ℕ) (al ah : List ℕ) (bl bh : Option LoadedPacket) (e : ReceiverEnd) where
+module _ (g : Agreed) (law : check.Sound (g .check)) (m : Option (List ℕ)) (ql qh : LaneState) (n z t : ℕ) (al ah : List ℕ) (bl bh : Option (List ℕ)) (e : ReceiverEnd) where
   -- steps 3 to 6 of the high lane
-  lock-high : (u : Bool) → (let s = sender ql qh n z (sending high) u false t in
-      let w = station s al ah bl bh in
-      Sound g w → Lock g w e → (st : Step) → Way g high s (laneD qh ah) st → Leads g (st .out) (w .lanes) (ql .position) (afterStep false w st) e)
-  lock-high u s k st (ends over) =
-      let b = s .in·bounds in
-      let fo = all-covered qh ah n z e over (b .line .0) (k .along .0) in
+  lock-high : (u b s : Bool) → (let v = sender ql qh n z (sending high) u false t in
+      let w = station v al ah bl bh in
+      Sound g w → Lock g m b s w e → (st : Step) → Way g high v (laneD qh ah) st → Leads g m b s (st .out) (w .lanes) (ql .position) (afterStep w st) e)
+  lock-high u b s i k st (ends over) =
+      let room = i .in·bounds .line .0 in
+      let fo = all-covered qh ah n z e over room (k .along .0) in
       let end = flag-ends g e (k .ready) in (
-        expected-close g law qh ah e (k .ready) high bh (ql .position) (s .stock·high) (b .line .0 .loaded) (λ _. fo),
+        closed-answer g law qh ah e (k .ready) high bh m b s (ql .position) refl (i .stock·high) (room .loaded) fo,
         record {
           ready = end .ready;
-          not-begun = tt;
+          whose = k .whose;
           along = (
             end .out,
-            held-on u bl ql al e _ (holds-closes g law qh ah e (k .ready) bh (s .stock·high) (b .line .0 .loaded) fo) (k .along .1),
+            held-on u b s ql al e _ (closed-holding g law qh ah e (k .ready) bh (i .stock·high) (room .loaded) fo)
+                (λ h. closed-held g law qh ah e (k .ready) bh s (i .stock·high) (room .loaded) fo (plain-replaces s e h)) (k .along .1),
           );
         },
       )
-  lock-high u s k st (cuts short is pre urgent f) = bounds.low-high is
-  lock-high u s k st (warns short is pre urgent f) = bounds.low-high is
-  lock-high u s k st (goes x pos n′ z′ short v) =
-      let b = s .in·bounds in
-      let m =
-      heard g qh ah n z (stock-fits g qh ah bh (s .stock·high)) (b .high .size (λ q. omega (arith, b .line .0 .loaded)) .1)
-      (record { room = b .line .0 .room; few = b .few; two = b .two; even = b .even }) (s .line .0) e (k .ready) (k .along .0) x pos n′ z′ short v in (
-        expected-send g high (toLine x) bh (ql .position) e (k .ready) (no-flag x),
+  lock-high u b s i k st (cuts short is pre urgent f) = bounds.low-high is
+  lock-high u b s i k st (warns short is pre urgent f) = bounds.low-high is
+  lock-high u b s i k st (goes x pos n′ z′ short v free) =
+      let c = i .in·bounds in
+      let h =
+      heard g qh ah n z (stock-fits g qh ah bh (i .stock·high)) (c .high .size (λ q. omega (arith, c .line .0 .loaded)) .1)
+      (record { room = c .line .0 .room; few = c .few; two = c .two; even = c .even }) (i .line .0) e (k .ready) (k .along .0) x pos n′ z′ short v in (
+        quiet-send g high (toLine x) bh m b s (ql .position) e (k .ready) (no-flag x),
         record {
           ready = other-passes g e (toLine x) (no-flag x) (k .ready) .ready;
-          not-begun = not-begun-on bh (k .not-begun);
-          along = (m .follows, held-on u bl ql al e _ (m .holding) (k .along .1));
+          whose = k .whose;
+          along = (h .follows, held-on u b s ql al e _ (h .holding) (h .held s) (k .along .1));
         },
       )
 
-  -- of the low lane; only a packet begun after the chosen flag is followed
-  lock-low : (let s = sender ql qh n z (sending low) false false t in
-      let w = station s al ah bl bh in
-      Sound g w → Lock g w e → (st : Step) → Way g low s (laneD ql al) st → Leads g (st .out) (w .lanes) (ql .position) (afterStep false w st) e)
-  lock-low s k st (ends over) =
-      let b = s .in·bounds in
-      let end = flag-ends g e (k .ready) in (
-        expected-close g law ql al e (k .ready) low bl (ql .position) (s .stock·low) (b .line .0 .loaded)
-            (λ y. all-covered ql al n z e over (b .line .0) (k .along y)),
-        record { ready = end .ready; not-begun = k .not-begun; along = (end .out, tt) },
-      )
-  lock-low s k st (cuts short is pre urgent left) =
-      let b = s .in·bounds in
-      let end = flag-ends g e (k .ready) in (
-        expected-break g law ql al e (k .ready) bl n z (s .stock·low) (b .line .0 .loaded) pre left (k .along),
+  -- a flag that breaks off a packet begun after the chosen flag,
+  breaks : (s : Bool) (n′ z′ i j : ℕ) → Ready g e → Follows (laneD ql al) (ql .position) n′ z′ (work e) → Replaces s e → 0 < n′ → g .pre ≡ true
+      → LedBy g m false s (record { out = breaksOff; octet = flag; sentFor = bl; lowPosition = ql .position }) (station (sender ql qh i j noLane true false t) al ah bl bh) e
+  breaks s n′ z′ i j r fo rep left pre =
+      let end = flag-ends g e r in (
+        record {
+          arrives = arrives _ (end .tells);
+          expected = λ _. breaks-held g e r (laneD ql al) (ql .position) n′ z′ fo left pre ∙ ap (held (ql .position)) rep;
+          aside = λ q. false-true q;
+        },
         record {
           ready = end .ready;
-          not-begun = k .not-begun;
+          whose = λ q. false-true q;
+          along = (end .out, (refl, breaks-holding g e r (laneD ql al) (ql .position) n′ z′ fo left pre));
+        },
+      )
+
+  -- and one under way at it
+  breaks-aside : (s : Bool) (i j : ℕ) → Ready g e → bl ≡ m → s ≡ false
+      → LedBy g m true s (record { out = breaksOff; octet = flag; sentFor = bl; lowPosition = ql .position }) (station (sender ql qh i j noLane true false t) al ah bl bh) e
+  breaks-aside s i j r whose none·s =
+      let end = flag-ends g e r in (
+        aside-flag g breaksOff bl m s (ql .position) e r refl whose (sym none·s),
+        record { ready = end .ready; whose = λ _. whose; along = (end .out, refl) },
+      )
+
+  -- of the low lane, a packet begun after the chosen flag,
+  lock-low : (s : Bool) → (let v = sender ql qh n z (sending low) false false t in
+      let w = station v al ah bl bh in
+      Sound g w → Lock g m false s w e → (st : Step) → Way g low v (laneD ql al) st → Leads g m false s (st .out) (w .lanes) (ql .position) (afterStep w st) e)
+  lock-low s i k st (ends over) =
+      let room = i .in·bounds .line .0 in
+      let fo = all-covered ql al n z e over room (k .along .0) in
+      let end = flag-ends g e (k .ready) in (
+        closed-answer g law ql al e (k .ready) low bl m false s (ql .position) refl (i .stock·low) (room .loaded) fo,
+        record {
+          ready = end .ready;
+          whose = λ q. false-true q;
+          along = (end .out, (refl, closed-held g law ql al e (k .ready) bl s (i .stock·low) (room .loaded) fo (k .along .1)));
+        },
+      )
+  lock-low s i k st (cuts short is pre urgent left) = breaks s n z 0 0 (k .ready) (k .along .0) (k .along .1) left pre
+  lock-low s i k st (warns short is pre urgent f) =
+      let c = i .in·bounds in
+      let h =
+      heard-two g ql al n z (stock-fits g ql al bl (i .stock·low)) (c .low .size (λ q. omega (arith, c .line .0 .loaded)) .1)
+      (record { room = c .line .0 .room; few = c .few; two = c .two; even = c .even }) (i .line .0) e (k .ready) (k .along .0) f in (
+        quiet-send g low 0x02 bl m false s (ql .position) e (k .ready) (λ q. omega arith),
+        record {
+          ready = other-passes g e 0x02 (λ q. omega arith) (k .ready) .ready;
+          whose = k .whose;
+          along = (h .follows, h .replaces s (k .along .1));
+        },
+      )
+  lock-low s i k st (goes x pos n′ z′ short v free) =
+      let c = i .in·bounds in
+      let h =
+      heard g ql al n z (stock-fits g ql al bl (i .stock·low)) (c .low .size (λ q. omega (arith, c .line .0 .loaded)) .1)
+      (record { room = c .line .0 .room; few = c .few; two = c .two; even = c .even }) (i .line .0) e (k .ready) (k .along .0) x pos n′ z′ short v in (
+        quiet-send g low (toLine x) bl m false s (ql .position) e (k .ready) (no-flag x),
+        record {
+          ready = other-passes g e (toLine x) (no-flag x) (k .ready) .ready;
+          whose = k .whose;
+          along = (h .follows, h .replaces s (k .along .1));
+        },
+      )
+
+  -- and one under way at it
+  lock-aside : (s : Bool) → (let v = sender ql qh n z (sending low) false false t in
+      let w = station v al ah bl bh in
+      Sound g w → Lock g m true s w e → (st : Step) → Way g low v (laneD ql al) st → Leads g m true s (st .out) (w .lanes) (ql .position) (afterStep w st) e)
+  lock-aside s i k st (ends over) =
+      let end = flag-ends g e (k .ready) in
+      let none·left : n ≡ 0 = omega (arith, over, i .in·bounds .line .0 .room) in (
+        aside-flag g (closes low) bl m s (ql .position) e (k .ready) refl (k .whose refl) refl,
+        record {
+          ready = end .ready;
+          whose = λ q. false-true q;
           along = (
             end .out,
-            λ y. breaks-holding g e (k .ready) (laneD ql al) (ql .position) n z (k .along (not-begun-back bl y)) left pre,
+            (
+              refl,
+              record {
+                plain = end .ready .bounds .out (end .out) .resumed·0;
+                is = ap isHeld (leaves-nothing g e (k .ready) (in-step-at n 0 (e .state) none·left (k .along .1))) ∙ sym (k .along .0);
+              },
+            ),
           );
         },
       )
-  lock-low s k st (warns short is pre urgent f) =
-      let b = s .in·bounds in (
-        expected-send g low 0x02 bl (ql .position) e (k .ready) (λ q. omega arith),
-        record {
-          ready = other-passes g e 0x02 (λ q. omega arith) (k .ready) .ready;
-          not-begun = k .not-begun;
-          along =
-              λ y.
-              heard-two g ql al n z (stock-fits g ql al bl (s .stock·low)) (b .low .size (λ q. omega (arith, b .line .0 .loaded)) .1)
-              (record { room = b .line .0 .room; few = b .few; two = b .two; even = b .even }) (s .line .0) e (k .ready) (k .along (not-begun-back bl y)) f;
-        },
-      )
-  lock-low s k st (goes x pos n′ z′ short v) =
-      let b = s .in·bounds in (
-        expected-send g low (toLine x) bl (ql .position) e (k .ready) (no-flag x),
-        record {
-          ready = other-passes g e (toLine x) (no-flag x) (k .ready) .ready;
-          not-begun = k .not-begun;
-          along =
-              λ y.
-              heard g ql al n z (stock-fits g ql al bl (s .stock·low)) (b .low .size (λ q. omega (arith, b .line .0 .loaded)) .1)
-              (record { room = b .line .0 .room; few = b .few; two = b .two; even = b .even }) (s .line .0) e (k .ready) (k .along (not-begun-back bl y))
-              x pos n′ z′ short v .follows;
-        },
-      )
+  lock-aside s i k st (cuts short is pre urgent left) = breaks-aside s 0 0 (k .ready) (k .whose refl) (k .along .0)
+  lock-aside s i k st (warns short is pre urgent f) = (
+    quiet-send g low 0x02 bl m true s (ql .position) e (k .ready) (λ q. omega arith),
+    record { ready = other-passes g e 0x02 (λ q. omega arith) (k .ready) .ready; whose = k .whose; along = k .along .0 },
+  )
+  lock-aside s i k st (goes x pos n′ z′ short v free) = (
+    quiet-send g low (toLine x) bl m true s (ql .position) e (k .ready) (no-flag x),
+    record {
+      ready = other-passes g e (toLine x) (no-flag x) (k .ready) .ready;
+      whose = k .whose;
+      along = (
+        k .along .0,
+        in-step g ql al n z (stock-fits g ql al bl (i .stock·low)) (i .line .0) e (k .ready) (k .along .1) x pos n′ z′ short v,
+      );
+    },
+  )
 
   -- a lane comes on the line
   begins : (q : LaneState) (a : List ℕ) → q .length ≤ length a → q .position ≡ 0 → n ≡ 0 → z ≡ 0 → Ready g e → e .state .framed ≡ false
@@ -302,101 +412,95 @@ module _ (g : Agreed) (law : check.Sound (g .check)) (ql qh : LaneState) (n z t 
       (resumes g e r (laneD ql al) (ql .position) hd out (wait .pre)
       (omega (arith, wait .short, bounds.data-long g ql al (stock-fits g ql al bl st)))))
 
+  D1-steps : Ready g e → e .state .framed ≡ false → InStep 0 (receive e 0xD1 .after .state)
+  D1-steps r out = rw (passes-plain g e r 0xD1 (λ q. omega arith) (λ q. omega arith)) (D1-in-step g e r out)
+
+  resumed-low : (b s : Bool) → Sound g (station (sender ql qh n z noLane true false t) al ah bl bh)
+      → Lock g m b s (station (sender ql qh n z noLane true false t) al ah bl bh) e
+      → OnLow b false s ql al n z (receive e 0xD1 .after)
+  resumed-low false s i k =
+      let none·left = i .in·bounds .line in (
+        resumes-low (i .stock·low) (i .line .1) (k .along .1 .1) (none·left .0) (none·left .1) (k .ready) (k .along .0),
+        rw (D1-steps (k .ready) (k .along .0) .resumed·is) (sym (k .along .1 .0)),
+      )
+  resumed-low true s i k = (k .along .1, in-step-at 0 n _ (sym (i .in·bounds .line .0)) (D1-steps (k .ready) (k .along .0)))
+
   -- whichever step applies
-  lock-turn : (o : OnLine) (u c : Bool) (st : Step) → Turn g ql qh n z t al ah o u c st → (let w = station (sender ql qh n z o u c t) al ah bl bh in
-      Sound g w → Lock g w e → Leads g (st .out) (w .lanes) (ql .position) (afterStep false w st) e)
-  lock-turn noLane u c st cut·due s k = true-false (s .in·bounds .line .2)
-  lock-turn (sending high) u c st cut·due s k = true-false (s .in·bounds .line .1)
-  lock-turn (sending low) u c st cut·due s k =
-      let end = flag-ends g e (k .ready) in
-      let wait : Waiting g ql = s .line .0 in (
-        expected-break g law ql al e (k .ready) bl 1 1 (s .stock·low) (s .in·bounds .line .0 .loaded) (wait .pre) (omega arith) (k .along),
-        record {
-          ready = end .ready;
-          not-begun = k .not-begun;
-          along = (
-            end .out,
-            λ y. breaks-holding g e (k .ready) (laneD ql al) (ql .position) 1 1 (k .along (not-begun-back bl y)) (omega arith) (wait .pre),
-          );
-        },
-      )
-  lock-turn o u c st idles s k = k
-  lock-turn o u c st (resumes·low h) s k =
-      let b = s .in·bounds in (
-        expected-send g low 0xD1 bl (ql .position) e (k .ready) (λ q. omega arith),
-        record {
-          ready = other-passes g e 0xD1 (λ q. omega arith) (k .ready) .ready;
-          not-begun = k .not-begun;
-          along =
-              λ y.
-              resumes-low (s .stock·low) (s .line .1) (k .along .1 (not-begun-back bl y)) (b .line .0) (b .line .1) (k .ready) (k .along .0);
-        },
-      )
-  lock-turn o u c st (begins·high h w) s k =
-      let b = s .in·bounds in
-      let fo = begins qh ah (stock-fits g qh ah bh (s .stock·high)) (s .line .0 .start) (b .line .0) (b .line .1) (k .ready) (k .along .0) in
-      lock-high u (enter-high g false ql qh n z t al ah bl bh u h s) (record { ready = k .ready; not-begun = k .not-begun; along = (fo, k .along .1) }) st w
-  lock-turn o u c st (begins·low h w) s k =
-      let b = s .in·bounds in
-      let fo = begins ql al (stock-fits g ql al bl (s .stock·low)) (s .line .1 .start) (b .line .0) (b .line .1) (k .ready) (k .along .0) in
-      lock-low (enter-low g false ql qh n z t al ah bl bh h s) (record { ready = k .ready; not-begun = k .not-begun; along = λ _. fo }) st w
-  lock-turn o u c st (high·on w) s k = lock-high u s k st w
-  lock-turn o true c st (low·on w) s k = true-false (s .in·bounds .line .1)
-  lock-turn o false c st (low·on w) s k = lock-low s k st w
+  lock-turn : (o : OnLine) (u c b s : Bool) (st : Step) → Turn g ql qh n z t al ah o u c st → (let w = station (sender ql qh n z o u c t) al ah bl bh in
+      Sound g w → Lock g m b s w e → Leads g m b s (st .out) (w .lanes) (ql .position) (afterStep w st) e)
+  lock-turn noLane u c b s st cut·due i k = true-false (i .in·bounds .line .2)
+  lock-turn (sending high) u c b s st cut·due i k = true-false (i .in·bounds .line .1)
+  lock-turn (sending low) u c false s st cut·due i k =
+      let wait : Waiting g ql = i .line .0 in
+      breaks s 1 1 n z (k .ready) (k .along .0) (k .along .1) (omega arith) (wait .pre)
+  lock-turn (sending low) u c true s st cut·due i k = breaks-aside s n z (k .ready) (k .whose refl) (k .along)
+  lock-turn o u c b s st (idles f h) i k = k
+  lock-turn o u c b s st (resumes·low f h) i k = (
+    quiet-send g low 0xD1 bl m b s (ql .position) e (k .ready) (λ q. omega arith),
+    record { ready = other-passes g e 0xD1 (λ q. omega arith) (k .ready) .ready; whose = k .whose; along = resumed-low b s i k },
+  )
+  lock-turn o u c b s st (begins·high h w) i k =
+      let c = i .in·bounds in
+      let fo = begins qh ah (stock-fits g qh ah bh (i .stock·high)) (i .line .0) (c .line .0) (c .line .1) (k .ready) (k .along .0) in
+      lock-high u b s (enter-high g ql qh n z t al ah bl bh u h i) (record { ready = k .ready; whose = k .whose; along = (fo, k .along .1) }) st w
+  lock-turn o u c true s st (begins·low f h w) i k = true-false (k .along .1 .0)
+  lock-turn o u c false s st (begins·low f h w) i k =
+      let c = i .in·bounds in
+      let fo = begins ql al (stock-fits g ql al bl (i .stock·low)) (i .line .1) (c .line .0) (c .line .1) (k .ready) (k .along .0) in
+      lock-low s (enter-low g ql qh n z t al ah bl bh h i)
+      (record { ready = k .ready; whose = k .whose; along = (fo, plain-replaces s e (k .along .1 .1)) }) st w
+  lock-turn o u c b s st (high·on w) i k = lock-high u b s i k st w
+  lock-turn o true c b s st (low·on w) i k = true-false (i .in·bounds .line .1)
+  lock-turn o false c false s st (low·on w) i k = lock-low s i k st w
+  lock-turn o false c true s st (low·on w) i k = lock-aside s i k st w
 
 -- ---- the calls
 
-pub lock-next : (g : Agreed) (law : check.Sound (g .check)) (w : Station) (e : ReceiverEnd) → Sound g w → Lock g w e
-    → Leads g (next (w .end) .out) (w .lanes) (w .end .state .low .position) (afterNext false w) e
-unfolding afterNext next
-lock-next g law w e s k =
+pub lock-next : (g : Agreed) (law : check.Sound (g .check)) (m : Option (List ℕ)) (b s : Bool) (w : Station) (e : ReceiverEnd) → Sound g w → Lock g m b s w e
+    → Leads g m b s (next (w .end) .out) (w .lanes) (w .end .state .low .position) (afterNext w) e
+unfolding afterNext
+lock-next g law m b s w e i k =
     let d = w .end in
     let r = d .state in
-    let P : Step → Type 0 = λ st. Leads g (st .out) (w .lanes) (r .low .position) (afterStep false w st) e in
-    rw (s .agrees)
-    (branch P (ltb (length (d .low)) (largestFrame g) || ltb (length (d .high)) (largestFrame g)) (λ _. k)
-    (λ _. branch P (not (inBounds g r)) (λ _. k)
-    (λ _.
-    lock-turn g law (r .low) (r .high) (r .left) (r .zeros) (r .settings) (d .low) (d .high) (w .lanes .low) (w .lanes .high) e
-    (r .on) (r .suspended) (r .cut) _
-    (turn g (r .low) (r .high) (r .left) (r .zeros) (r .settings) (d .low) (d .high) (r .on) (r .suspended) (r .cut)) s k)))
+    by-next g d (i .agrees) (λ st. Leads g m b s (st .out) (w .lanes) (r .low .position) (afterStep w st) e) (λ _. k)
+    (λ st v.
+    lock-turn g law m (r .low) (r .high) (r .left) (r .zeros) (r .settings) (d .low) (d .high) (w .lanes .low) (w .lanes .high) e
+    (r .on) (r .suspended) (r .cut) b s st v i k)
 
 -- a load leaves the two ends in step
-module _ (q·p : LaneState) (a·p : List ℕ) (b·p : Option LoadedPacket) (ql qh : LaneState) (n z t : ℕ) (al ah : List ℕ) (bl bh : Option LoadedPacket) (e : ReceiverEnd) where
-  along-low : (o : OnLine) (u c : Bool) → bounds.LowOff o u c → Along o u c (station (sender ql qh n z o u c t) al ah bl bh) e
-      → Along o u c (station (sender q·p qh n z o u c t) a·p ah b·p bh) e
-  along-low o u c bounds.low-off₁ k = k
-  along-low o u c bounds.low-off₂ k = k
+module _ (q·p : LaneState) (a·p : List ℕ) (b·p : Option (List ℕ)) (ql qh : LaneState) (n z t : ℕ) (al ah : List ℕ) (bl bh : Option (List ℕ)) (b s : Bool) (e : ReceiverEnd) where
+  along-low : (o : OnLine) (u c : Bool) → bounds.LowOff o u c → Along o u c b s (station (sender ql qh n z o u c t) al ah bl bh) e
+      → (b ≡ false) × Along o u c b s (station (sender q·p qh n z o u c t) a·p ah b·p bh) e
+  along-low o u c bounds.low-off₁ k = (k .1 .0, k)
+  along-low o u c bounds.low-off₂ k = (k .1 .0, k)
 
-  along-high : (o : OnLine) (u c : Bool) → bounds.HighOff o u c → Along o u c (station (sender ql qh n z o u c t) al ah bl bh) e
-      → Along o u c (station (sender ql q·p n z o u c t) al a·p bl b·p) e
+  along-high : (o : OnLine) (u c : Bool) → bounds.HighOff o u c → Along o u c b s (station (sender ql qh n z o u c t) al ah bl bh) e
+      → Along o u c b s (station (sender ql q·p n z o u c t) al a·p bl b·p) e
   along-high o u c bounds.high-off₁ k = k
   along-high o u c bounds.high-off₂ k = k
   along-high o u c bounds.high-off₃ k = k
 
-pub lock-load : (g : Agreed) (l : Lane) (p : List ℕ) (w : Station) (e : ReceiverEnd) → Sound g w → Lock g w e → Lock g (afterLoad l p w) e
+pub lock-load : (g : Agreed) (m : Option (List ℕ)) (b s : Bool) (l : Lane) (p : List ℕ) (w : Station) (e : ReceiverEnd) → Sound g w → Lock g m b s w e
+    → Lock g m b s (afterLoad l p w) e
 unfolding putFrame
-lock-load g low p w e s k =
+lock-load g m b s low p w e i k =
     let d = w .end in
     let r = d .state in
-    by-load g low p w (λ v. Lock g v e) (s .agrees) k
+    by-load g low p w (λ v. Lock g m b s v e) (i .agrees) k
+    (λ a.
+    let along =
+    along-low _ _ (some p) (r .low) (r .high) (r .left) (r .zeros) (r .settings) (d .low) (d .high) (w .lanes .low) (w .lanes .high) b s e
+    (r .on) (r .suspended) (r .cut) (low-is-off g r (i .in·bounds) (a .free)) (k .along) in
+    record { ready = k .ready; whose = λ q. true-false (sym q ∙ along .0); along = along .1 })
+lock-load g m b s high p w e i k =
+    let d = w .end in
+    let r = d .state in
+    by-load g high p w (λ v. Lock g m b s v e) (i .agrees) k
     (λ a.
     record {
       ready = k .ready;
-      not-begun = k .not-begun;
+      whose = k .whose;
       along =
-          along-low _ _ _ (r .low) (r .high) (r .left) (r .zeros) (r .settings) (d .low) (d .high) (w .lanes .low) (w .lanes .high) e
-          (r .on) (r .suspended) (r .cut) (low-is-off g r (s .in·bounds) (a .free)) (k .along);
-    })
-lock-load g high p w e s k =
-    let d = w .end in
-    let r = d .state in
-    by-load g high p w (λ v. Lock g v e) (s .agrees) k
-    (λ a.
-    record {
-      ready = k .ready;
-      not-begun = refl;
-      along =
-          along-high _ _ _ (r .low) (r .high) (r .left) (r .zeros) (r .settings) (d .low) (d .high) (w .lanes .low) (w .lanes .high) e
-          (r .on) (r .suspended) (r .cut) (high-is-off g r (s .in·bounds) (a .free)) (k .along);
+          along-high _ _ (some p) (r .low) (r .high) (r .left) (r .zeros) (r .settings) (d .low) (d .high) (w .lanes .low) (w .lanes .high) b s e
+          (r .on) (r .suspended) (r .cut) (high-is-off g r (i .in·bounds) (a .free)) (k .along);
     })

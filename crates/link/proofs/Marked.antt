@@ -21,7 +21,7 @@ use Rattle.link.specs.Sender.{Lane, low, high, putFrame, load, step4Brea
 use Rattle.link.specs.Sender as sender
 use Rattle.link.specs.Receiver.{Working, ReceiverEnd, Receive, Ended, isNoBlock, isD0, step3Decode, step3Data, step2ByMeaning, step2Code, step1ResumeHeld, step1D1, step1FirstOctet, steps1To4, step5WithoutPhantom, step5Flag, atFlag, work, putBack, flagged, receive}
 use Rattle.link.specs.Receiver as receiver
-use Rattle.link.specs.Runs.{afterLoad, afterNext, run, written, receives, notQuiet, received}
+use Rattle.link.specs.Runs.{afterLoad, afterNext, run, written, receives, notQuiet, received, underWay, leftAside}
 use Rattle.link.specs.Demands.{freshReceiver}
 use Rattle.link.specs.Marked.{Case, refusedTen, Says, receiverArea, cases, MarkedCases, AtWork}
 use Rattle.link.proofs.Tests.{if-so, if-not, true-false}
@@ -35,7 +35,7 @@ AllHold (c ∷ cs) = Says c × AllHold cs
 
 -- ---- (a) to (g) and (i): computed
 
-lanes : (P : Lane → Type 0) → P low → P high → (l : Lane) → P l
+pub lanes : (P : Lane → Type 0) → P low → P high → (l : Lane) → P l
 lanes P h k low = h
 lanes P h k high = k
 
@@ -159,12 +159,19 @@ h·DB =
     let d = run-on g·3 zxe·3 2040 11 (omega arith) (omega arith) e many (omega (arith, room·3)) in
     rw (received-append (freshReceiver 0x03 receiverArea receiverArea) (replicate 136 0xDF) 0xDB) (not-ten g·3 (receive e 0xDB .after) (d .ready) (d .clean))
 
-h·DC : Says (refusedTen (replicate 136 0xDF ++ (0xDC ∷ [])) true)
-h·DC =
+over : (z : ℕ) → 11 < z → z ≤ 15 → Says (refusedTen (replicate 136 0xDF ++ ((0xD0 + z) ∷ [])) true)
+over z h k =
     let e = received (freshReceiver 0x03 receiverArea receiverArea) (replicate 136 0xDF) in
-    rw (received-append (freshReceiver 0x03 receiverArea receiverArea) (replicate 136 0xDF) 0xDC)
-    (told-refusal g·3 (receive e 0xDC .after) (receive-ready g·3 e 0xDC (many .ready)) 9
-    (run-over g·3 zxe·3 2040 12 (omega arith) (omega arith) e many (omega (arith, room·3))))
+    rw (received-append (freshReceiver 0x03 receiverArea receiverArea) (replicate 136 0xDF) (0xD0 + z))
+    (told-refusal g·3 (receive e (0xD0 + z) .after) (receive-ready g·3 e (0xD0 + z) (many .ready)) 9
+    (run-over g·3 zxe·3 2040 z (omega arith) k e many (omega (arith, room·3))))
+
+h·DC : Says (refusedTen (replicate 136 0xDF ++ (0xDC ∷ [])) true)
+h·DC = over 12 (omega arith) (omega arith)
+
+-- 137 times DF, for the examples
+pub many-over : Says (refusedTen (replicate 137 0xDF) true)
+many-over = over 15 (omega arith) (omega arith)
 
 -- ---- the table
 
@@ -185,5 +192,5 @@ marked = each cases all
 -- ---- demand 3 at work
 
 pub at-work : AtWork
-unfolding run received written receives notQuiet afterLoad afterNext agreed putFrame load step4BreakOff step5Data step6Code steps3To6 step2NoLane steps1To6 next sender.inBounds step3Decode step3Data step2ByMeaning step2Code step1ResumeHeld step1D1 step1FirstOctet steps1To4 step5WithoutPhantom step5Flag atFlag receive receiver.inBounds inRange codeTable meaning toLine fromLine leading choice _⊕_ bitStep bitSteps entry octetStep feed register lowFirst fcs good
-at-work = (refl, refl)
+unfolding run received underWay leftAside written receives notQuiet afterLoad afterNext agreed putFrame load step4BreakOff step5Data step6Code steps3To6 step2NoLane steps1To6 next sender.inBounds step3Decode step3Data step2ByMeaning step2Code step1ResumeHeld step1D1 step1FirstOctet steps1To4 step5WithoutPhantom step5Flag atFlag receive receiver.inBounds inRange codeTable meaning toLine fromLine leading choice _⊕_ bitStep bitSteps entry octetStep feed register lowFirst fcs good
+at-work = record { premise = refl; underWay = refl; line = refl; through = refl; aside = refl }

@@ -203,7 +203,7 @@ low-high e = absurd (let z : _≡_ {A = ℕ} 0 1 = cc in omega arith)
 pub most : (g : Agreed) (q : LaneState) → LaneOk g q → q .length ≤ largestFrame g
 most g q h = decide (eqb (q .length) 0) (λ e. omega (arith, eqb-true (q .length) 0 e)) (λ e. h .size (eqb-false (q .length) 0 e) .1)
 
-fits-area : (g : Agreed) (q : LaneState) (a : List ℕ) → LaneOk g q → largestFrame g ≤ length a → q .length ≤ length a
+pub fits-area : (g : Agreed) (q : LaneState) (a : List ℕ) → LaneOk g q → largestFrame g ≤ length a → q .length ≤ length a
 fits-area g q a h k = omega (arith, most g q h)
 
 empty-ok : (g : Agreed) → LaneOk g (record { length = 0; position = 0 })
@@ -239,7 +239,7 @@ module _ (g : Agreed) (ql qh : LaneState) (n z t : ℕ) where
       }
   high-keeps u a fits b st (cuts short e pre urgent f) = low-high e
   high-keeps u a fits b st (warns short e pre urgent f) = low-high e
-  high-keeps u a fits b st (goes x pos n′ z′ short v) =
+  high-keeps u a fits b st (goes x pos n′ z′ short v free) =
       let k = advance g qh a fits n z (record { room = b .line .0 .room; few = b .few; two = b .two; even = b .even }) short x pos n′ z′ v in
       record {
         settings = refl;
@@ -289,7 +289,7 @@ module _ (g : Agreed) (ql qh : LaneState) (n z t : ℕ) where
       }
   low-keeps a fits b st (warns short e pre urgent f) =
       record { settings = refl; bounds = relined (sending low) false true (b .line .0, refl, λ _. f) (λ e. false-true e) b }
-  low-keeps a fits b st (goes x pos n′ z′ short v) =
+  low-keeps a fits b st (goes x pos n′ z′ short v free) =
       let k = advance g ql a fits n z (record { room = b .line .0 .room; few = b .few; two = b .two; even = b .even }) short x pos n′ z′ v in
       record {
         settings = refl;
@@ -329,10 +329,10 @@ module _ (g : Agreed) (ql qh : LaneState) (n z t : ℕ) where
   turn-keeps al ah hl hh noLane u c st cut·due b = true-false (b .line .2)
   turn-keeps al ah hl hh (sending high) u c st cut·due b = true-false (b .line .1)
   turn-keeps al ah hl hh (sending low) u c st cut·due b = cut-keeps u b
-  turn-keeps al ah hl hh o u c st idles b = record { settings = refl; bounds = b }
-  turn-keeps al ah hl hh o u c st (resumes·low h) b = record { settings = refl; bounds = enter-low true h b }
+  turn-keeps al ah hl hh o u c st (idles i j) b = record { settings = refl; bounds = b }
+  turn-keeps al ah hl hh o u c st (resumes·low i h) b = record { settings = refl; bounds = enter-low true h b }
   turn-keeps al ah hl hh o u c st (begins·high h w) b = high-keeps u ah (fits-area g qh ah (b .high) hh) (enter-high u h b) st w
-  turn-keeps al ah hl hh o u c st (begins·low h w) b = low-keeps al (fits-area g ql al (b .low) hl) (enter-low false h b) st w
+  turn-keeps al ah hl hh o u c st (begins·low i h w) b = low-keeps al (fits-area g ql al (b .low) hl) (enter-low false h b) st w
   turn-keeps al ah hl hh o u c st (high·on w) b = high-keeps u ah (fits-area g qh ah (b .high) hh) b st w
   turn-keeps al ah hl hh o true c st (low·on w) b = true-false (b .line .1)
   turn-keeps al ah hl hh o false c st (low·on w) b = low-keeps al (fits-area g ql al (b .low) hl) b st w

@@ -13,54 +13,48 @@ use Rattle.cobs.specs.CodeBlocks.{frame}
 use Rattle.cobs.proofs.Tests.{branch}
 use Rattle.link.specs.Agreed.{Agreed, agreed, leastPacket, largestFrame}
 use Rattle.link.specs.Sender.{Lane, low, high, OnLine, noLane, sending, LaneState, Sender, Step, laneArea, laneD, inBounds, next, putFrame}
-use Rattle.link.specs.Runs.{LoadedPacket, Station, freshStation, noteBegun, loadedBy, afterLoad, afterStep, afterNext, run, SenderCall, loading, nextOctet}
+use Rattle.link.specs.Runs.{Station, freshStation, loadedBy, afterLoad, afterStep, afterNext, run, SenderCall, loading, nextOctet}
 use Rattle.link.proofs.Tests.{true-false, false-true}
-use Rattle.link.proofs.Way.{Advance, last, more, covers, opens, Way, ends, cuts, warns, goes, sender, Turn, cut·due, idles, resumes·low, begins·high, begins·low, high·on, low·on, turn}
+use Rattle.link.proofs.Way.{Advance, last, more, covers, opens, Way, ends, cuts, warns, goes, sender, Turn, cut·due, idles, resumes·low, begins·high, begins·low, high·on, low·on, by-next}
 use Rattle.link.proofs.Follow.{BlockAt}
 use Rattle.link.proofs.SenderBounds as bounds
 
-abbrev pub station : Sender → List ℕ → List ℕ → Option LoadedPacket → Option LoadedPacket → Station
+abbrev pub station : Sender → List ℕ → List ℕ → Option (List ℕ) → Option (List ℕ) → Station
 station s al ah bl bh = record { end = record { state = s; low = al; high = ah }; lanes = record { low = bl; high = bh } }
 
 -- A lane's area holds the frame of the packet that was loaded.
-pub record StockOf (g : Agreed) (q : LaneState) (a : List ℕ) (m : LoadedPacket) : Type 0 where
-  pub big : leastPacket ≤ length (m .octets)
-  pub long : q .length ≡ length (frame (g .check) (m .octets))
-  pub same : take (q .length) a ≡ frame (g .check) (m .octets)
+pub record StockOf (g : Agreed) (q : LaneState) (a p : List ℕ) : Type 0 where
+  pub big : leastPacket ≤ length p
+  pub long : q .length ≡ length (frame (g .check) p)
+  pub same : take (q .length) a ≡ frame (g .check) p
 
-abbrev pub Stock : Agreed → LaneState → List ℕ → Option LoadedPacket → Type 0
+abbrev pub Stock : Agreed → LaneState → List ℕ → Option (List ℕ) → Type 0
 Stock g q a none = q .length ≡ 0
-Stock g q a (some m) = StockOf g q a m
-
--- a packet not begun before the chosen flag
-abbrev pub NotBegun : Option LoadedPacket → Type 0
-NotBegun none = Unit {0}
-NotBegun (some m) = m .begunUpToFlag ≡ false
+Stock g q a (some p) = StockOf g q a p
 
 -- a lane that has sent nothing of what it holds
-pub record Rested (q : LaneState) (m : Option LoadedPacket) : Type 0 where
-  pub start : q .position ≡ 0
-  pub not-begun : NotBegun m
+abbrev pub Rested : LaneState → Type 0
+Rested q = q .position ≡ 0
 
 -- a lane that was broken off, or is about to be
 pub record Waiting (g : Agreed) (q : LaneState) : Type 0 where
   pub short : q .position ≤ q .length
   pub pre : g .pre ≡ true
 
-abbrev pub Aside : Agreed → Bool → LaneState → Option LoadedPacket → Type 0
-Aside g true q m = Waiting g q
-Aside g false q m = Rested q m
+abbrev pub Aside : Agreed → Bool → LaneState → Type 0
+Aside g true q = Waiting g q
+Aside g false q = Rested q
 
 -- by the lane on the line, the mark suspended and whether a cut is due
 abbrev pub Line : Agreed → OnLine → Bool → Bool → Station → Type 0
-Line g noLane u c w = Rested (w .end .state .high) (w .lanes .high) × Aside g u (w .end .state .low) (w .lanes .low)
+Line g noLane u c w = Rested (w .end .state .high) × Aside g u (w .end .state .low)
 Line g (sending high) u c w =
     BlockAt (laneD (w .end .state .high) (w .end .high)) (w .end .state .high .position) (w .end .state .left) (w .end .state .zeros)
-    × Aside g u (w .end .state .low) (w .lanes .low)
+    × Aside g u (w .end .state .low)
 Line g (sending low) u false w =
     BlockAt (laneD (w .end .state .low) (w .end .low)) (w .end .state .low .position) (w .end .state .left) (w .end .state .zeros)
-    × Rested (w .end .state .high) (w .lanes .high)
-Line g (sending low) u true w = Waiting g (w .end .state .low) × Rested (w .end .state .high) (w .lanes .high)
+    × Rested (w .end .state .high)
+Line g (sending low) u true w = Waiting g (w .end .state .low) × Rested (w .end .state .high)
 
 pub record Sound (g : Agreed) (w : Station) : Type 0 where
   pub agrees : agreed (w .end .state .settings) ≡ g
@@ -69,14 +63,13 @@ pub record Sound (g : Agreed) (w : Station) : Type 0 where
   pub stock·high : Stock g (w .end .state .high) (w .end .high) (w .lanes .high)
   pub line : Line g (w .end .state .on) (w .end .state .suspended) (w .end .state .cut) w
 
-pub stock-noted : (g : Agreed) (q q′ : LaneState) (a : List ℕ) (early : Bool) (m : Option LoadedPacket) → q′ .length ≡ q .length → Stock g q a m
-    → Stock g q′ a (noteBegun early m)
-stock-noted g q q′ a early none e h = e ∙ h
-stock-noted g q q′ a early (some m) e h = record { big = h .big; long = e ∙ h .long; same = ap (λ (n : ℕ). take n a) e ∙ h .same }
+stock-moved : (g : Agreed) (q : LaneState) (a : List ℕ) (m : Option (List ℕ)) (pos : ℕ) → Stock g q a m → Stock g (record { length = q .length; position = pos }) a m
+stock-moved g q a none pos h = h
+stock-moved g q a (some p) pos h = record { big = h .big; long = h .long; same = h .same }
 
-pub stock-fits : (g : Agreed) (q : LaneState) (a : List ℕ) (m : Option LoadedPacket) → Stock g q a m → q .length ≤ length a
+pub stock-fits : (g : Agreed) (q : LaneState) (a : List ℕ) (m : Option (List ℕ)) → Stock g q a m → q .length ≤ length a
 stock-fits g q a none h = omega arith
-stock-fits g q a (some m) h =
+stock-fits g q a (some p) h =
     let e : length (take (q .length) a) ≡ q .length = ap length (h .same) ∙ sym (h .long) in
     omega (arith, length-take (q .length) a)
 
@@ -106,11 +99,11 @@ module _ (g : Agreed) (q : LaneState) (a : List ℕ) (n z : ℕ) (fits : q .leng
         zero = λ i k l. sym (getD-drop (q .position) d i 0) ∙ ch .zero i k l;
       }
 
-module _ (g : Agreed) (early : Bool) (ql qh : LaneState) (n z t : ℕ) (al ah : List ℕ) (bl bh : Option LoadedPacket) where
+module _ (g : Agreed) (ql qh : LaneState) (n z t : ℕ) (al ah : List ℕ) (bl bh : Option (List ℕ)) where
   -- steps 3 to 6 of the high lane
   pub sound-high : (u : Bool) → Sound g (station (sender ql qh n z (sending high) u false t) al ah bl bh)
       → (st : Step) → Way g high (sender ql qh n z (sending high) u false t) (laneD qh ah) st
-      → Sound g (afterStep early (station (sender ql qh n z (sending high) u false t) al ah bl bh) st)
+      → Sound g (afterStep (station (sender ql qh n z (sending high) u false t) al ah bl bh) st)
   sound-high u s st (ends over) =
       let k = bounds.high-keeps g ql qh n z t u ah (stock-fits g qh ah bh (s .stock·high)) (s .in·bounds) st (ends over) in
       record {
@@ -118,18 +111,18 @@ module _ (g : Agreed) (early : Bool) (ql qh : LaneState) (n z t : ℕ) (al ah : 
         in·bounds = k .bounds;
         stock·low = s .stock·low;
         stock·high = refl;
-        line = (record { start = refl; not-begun = tt }, s .line .1);
+        line = (refl, s .line .1);
       }
   sound-high u s st (cuts short e pre urgent f) = bounds.low-high e
   sound-high u s st (warns short e pre urgent f) = bounds.low-high e
-  sound-high u s st (goes x pos n′ z′ short v) =
+  sound-high u s st (goes x pos n′ z′ short v free) =
       let fits = stock-fits g qh ah bh (s .stock·high) in
-      let k = bounds.high-keeps g ql qh n z t u ah fits (s .in·bounds) st (goes x pos n′ z′ short v) in
+      let k = bounds.high-keeps g ql qh n z t u ah fits (s .in·bounds) st (goes x pos n′ z′ short v free) in
       record {
         agrees = s .agrees;
         in·bounds = k .bounds;
         stock·low = s .stock·low;
-        stock·high = stock-noted g qh _ ah early bh refl (s .stock·high);
+        stock·high = stock-moved g qh ah bh pos (s .stock·high);
         line = (block-on g qh ah n z fits (s .in·bounds .even) (s .line .0) short x pos n′ z′ v, s .line .1);
       }
 
@@ -140,20 +133,20 @@ module _ (g : Agreed) (early : Bool) (ql qh : LaneState) (n z t : ℕ) (al ah : 
 
   pub sound-low : Sound g (station (sender ql qh n z (sending low) false false t) al ah bl bh)
       → (st : Step) → Way g low (sender ql qh n z (sending low) false false t) (laneD ql al) st
-      → Sound g (afterStep early (station (sender ql qh n z (sending low) false false t) al ah bl bh) st)
+      → Sound g (afterStep (station (sender ql qh n z (sending low) false false t) al ah bl bh) st)
   sound-low s st (ends over) =
       record {
         agrees = s .agrees;
         in·bounds = low-in-bounds s st (ends over);
         stock·low = refl;
         stock·high = s .stock·high;
-        line = (s .line .1, record { start = refl; not-begun = tt });
+        line = (s .line .1, refl);
       }
   sound-low s st (cuts short e pre urgent f) =
       record {
         agrees = s .agrees;
         in·bounds = low-in-bounds s st (cuts short e pre urgent f);
-        stock·low = stock-noted g ql ql al early bl refl (s .stock·low);
+        stock·low = s .stock·low;
         stock·high = s .stock·high;
         line = (s .line .1, record { short = short; pre = pre });
       }
@@ -161,17 +154,17 @@ module _ (g : Agreed) (early : Bool) (ql qh : LaneState) (n z t : ℕ) (al ah : 
       record {
         agrees = s .agrees;
         in·bounds = low-in-bounds s st (warns short e pre urgent f);
-        stock·low = stock-noted g ql ql al early bl refl (s .stock·low);
+        stock·low = s .stock·low;
         stock·high = s .stock·high;
         line = (record { short = short; pre = pre }, s .line .1);
       }
-  sound-low s st (goes x pos n′ z′ short v) =
+  sound-low s st (goes x pos n′ z′ short v free) =
       let fits = stock-fits g ql al bl (s .stock·low) in
-      let k = bounds.low-keeps g ql qh n z t al fits (s .in·bounds) st (goes x pos n′ z′ short v) in
+      let k = bounds.low-keeps g ql qh n z t al fits (s .in·bounds) st (goes x pos n′ z′ short v free) in
       record {
         agrees = s .agrees;
         in·bounds = k .bounds;
-        stock·low = stock-noted g ql _ al early bl refl (s .stock·low);
+        stock·low = stock-moved g ql al bl pos (s .stock·low);
         stock·high = s .stock·high;
         line = (block-on g ql al n z fits (s .in·bounds .even) (s .line .0) short x pos n′ z′ v, s .line .1);
       }
@@ -201,71 +194,64 @@ module _ (g : Agreed) (early : Bool) (ql qh : LaneState) (n z t : ℕ) (al ah : 
 
   -- whichever step applies
   sound-turn : (o : OnLine) (u c : Bool) (st : Step) → Turn g ql qh n z t al ah o u c st → Sound g (station (sender ql qh n z o u c t) al ah bl bh)
-      → Sound g (afterStep early (station (sender ql qh n z o u c t) al ah bl bh) st)
+      → Sound g (afterStep (station (sender ql qh n z o u c t) al ah bl bh) st)
   sound-turn noLane u c st cut·due s = true-false (s .in·bounds .line .2)
   sound-turn (sending high) u c st cut·due s = true-false (s .in·bounds .line .1)
   sound-turn (sending low) u c st cut·due s =
       record {
         agrees = s .agrees;
         in·bounds = bounds.cut-keeps g ql qh n z t u (s .in·bounds) .bounds;
-        stock·low = stock-noted g ql ql al early bl refl (s .stock·low);
+        stock·low = s .stock·low;
         stock·high = s .stock·high;
         line = (s .line .1, s .line .0);
       }
-  sound-turn o u c st idles s = s
-  sound-turn o u c st (resumes·low h) s =
+  sound-turn o u c st (idles i j) s = s
+  sound-turn o u c st (resumes·low i h) s =
       record {
         agrees = s .agrees;
         in·bounds = bounds.enter-low g ql qh n z t true h (s .in·bounds);
-        stock·low = stock-noted g ql ql al early bl refl (s .stock·low);
+        stock·low = s .stock·low;
         stock·high = s .stock·high;
         line = (block-0 (laneD ql al) (ql .position) n z (s .in·bounds .line .0) (s .in·bounds .line .1), s .line .0);
       }
   sound-turn o u c st (begins·high h w) s = sound-high u (enter-high u h s) st w
-  sound-turn o u c st (begins·low h w) s = sound-low (enter-low h s) st w
+  sound-turn o u c st (begins·low i h w) s = sound-low (enter-low h s) st w
   sound-turn o u c st (high·on w) s = sound-high u s st w
   sound-turn o true c st (low·on w) s = true-false (s .in·bounds .line .1)
   sound-turn o false c st (low·on w) s = sound-low s st w
 
 -- ---- the calls
 
-pub sound-next : (g : Agreed) (early : Bool) (w : Station) → Sound g w → Sound g (afterNext early w)
-unfolding afterNext next
-sound-next g early w s =
+pub sound-next : (g : Agreed) (w : Station) → Sound g w → Sound g (afterNext w)
+unfolding afterNext
+sound-next g w s =
     let e = w .end in
     let r = e .state in
-    let P : Step → Type 0 = λ st. Sound g (afterStep early w st) in
-    rw (s .agrees)
-    (branch P (ltb (length (e .low)) (largestFrame g) || ltb (length (e .high)) (largestFrame g)) (λ _. s)
-    (λ _. branch P (not (inBounds g r)) (λ _. s)
-    (λ _.
-    sound-turn g early (r .low) (r .high) (r .left) (r .zeros) (r .settings) (e .low) (e .high) (w .lanes .low) (w .lanes .high)
-    (r .on) (r .suspended) (r .cut) _
-    (turn g (r .low) (r .high) (r .left) (r .zeros) (r .settings) (e .low) (e .high) (r .on) (r .suspended) (r .cut)) s)))
+    by-next g e (s .agrees) (λ st. Sound g (afterStep w st)) (λ _. s)
+    (λ st t.
+    sound-turn g (r .low) (r .high) (r .left) (r .zeros) (r .settings) (e .low) (e .high) (w .lanes .low) (w .lanes .high)
+    (r .on) (r .suspended) (r .cut) st t s)
 
 -- a load
 pub loaded-stock : (g : Agreed) (p a : List ℕ) → leastPacket ≤ length p
-    → StockOf g (bounds.q·p g p) (frame (g .check) p ++ drop (length (frame (g .check) p)) a) (record { octets = p; begunUpToFlag = false })
+    → StockOf g (bounds.q·p g p) (frame (g .check) p ++ drop (length (frame (g .check) p)) a) p
 loaded-stock g p a h =
     record { big = h; long = refl; same = take-append-seam (frame (g .check) p) (drop (length (frame (g .check) p)) a) }
 
-module _ (g : Agreed) (p : List ℕ) (ql qh : LaneState) (n z t : ℕ) (al ah : List ℕ) (bl bh : Option LoadedPacket) where
-  abbrev b·p : Option LoadedPacket
-  b·p = some (record { octets = p; begunUpToFlag = false })
-
+module _ (g : Agreed) (p : List ℕ) (ql qh : LaneState) (n z t : ℕ) (al ah : List ℕ) (bl bh : Option (List ℕ)) where
   abbrev a·p : List ℕ → List ℕ
   a·p a = frame (g .check) p ++ drop (length (frame (g .check) p)) a
 
   line-low : (o : OnLine) (u c : Bool) → bounds.LowOff o u c → Line g o u c (station (sender ql qh n z o u c t) al ah bl bh)
-      → Line g o u c (station (sender (bounds.q·p g p) qh n z o u c t) (a·p al) ah b·p bh)
-  line-low o u c bounds.low-off₁ l = (l .0, record { start = refl; not-begun = refl })
-  line-low o u c bounds.low-off₂ l = (l .0, record { start = refl; not-begun = refl })
+      → Line g o u c (station (sender (bounds.q·p g p) qh n z o u c t) (a·p al) ah (some p) bh)
+  line-low o u c bounds.low-off₁ l = (l .0, refl)
+  line-low o u c bounds.low-off₂ l = (l .0, refl)
 
   line-high : (o : OnLine) (u c : Bool) → bounds.HighOff o u c → Line g o u c (station (sender ql qh n z o u c t) al ah bl bh)
-      → Line g o u c (station (sender ql (bounds.q·p g p) n z o u c t) al (a·p ah) bl b·p)
-  line-high o u c bounds.high-off₁ l = (record { start = refl; not-begun = refl }, l .1)
-  line-high o u c bounds.high-off₂ l = (l .0, record { start = refl; not-begun = refl })
-  line-high o u c bounds.high-off₃ l = (l .0, record { start = refl; not-begun = refl })
+      → Line g o u c (station (sender ql (bounds.q·p g p) n z o u c t) al (a·p ah) bl (some p))
+  line-high o u c bounds.high-off₁ l = (refl, l .1)
+  line-high o u c bounds.high-off₂ l = (l .0, refl)
+  line-high o u c bounds.high-off₃ l = (l .0, refl)
 
 -- a run's load changes nothing, or is Done
 pub by-load : (g : Agreed) (l : Lane) (p : List ℕ) (w : Station) (P : Station → Type 0) → agreed (w .end .state .settings) ≡ g → P w
@@ -326,11 +312,11 @@ sound-fresh t a b =
           };
       stock·low = refl;
       stock·high = refl;
-      line = (record { start = refl; not-begun = tt }, record { start = refl; not-begun = tt });
+      line = (refl, refl);
     }
 
 pub sound-run : (g : Agreed) (w : Station) (cs : List SenderCall) → Sound g w → Sound g (run w cs)
 unfolding run
 sound-run g w [] s = s
 sound-run g w (loading l p ∷ cs) s = sound-run g (afterLoad l p w) cs (sound-load g l p w s)
-sound-run g w (nextOctet ∷ cs) s = sound-run g (afterNext true w) cs (sound-next g true w s)
+sound-run g w (nextOctet ∷ cs) s = sound-run g (afterNext w) cs (sound-next g w s)

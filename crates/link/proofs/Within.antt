@@ -2,31 +2,20 @@
 -- the number of a refusal are small.
 use mathlib.Core.Bool.{not, _||_}
 use mathlib.Core.List.{List}
-use mathlib.Core.Path.{_≡_, refl}
+use mathlib.Core.Path.{_≡_, refl, ap, _∙_}
 use Prim.Native.Nat.{ℕ, _+_, _-_, _≤_}
 use native.Mathlib.Omega.{arith}
-use borrow.Author.Tests.{eqb-false, not-true, not-false}
+use borrow.Author.Tests.{eqb-false, ltb-false, not-true, not-false}
 use lib.Dec.{ltb, eqb}
 use lib.ListN.{length, take}
 use Rattle.fcs.specs.CheckSequence.{good}
 use Rattle.cobs.specs.CodeBlocks.{flag}
 use Rattle.cobs.proofs.Tests.{branch}
 use Rattle.link.specs.Agreed.{Agreed, agreed, leastFrame, mostDecoded}
-use Rattle.link.specs.Answers.{Answer, done, octet, idle, quiet, packet, held, refused}
-use Rattle.link.specs.Receiver.{ReceiverEnd, Receive, Ended, isNoBlock, isD0, inBounds, step5WithoutPhantom, step5Flag, atFlag, areaOf, work, flagged, receive}
+use Rattle.link.specs.Receiver.{ReceiverEnd, Receive, Ended, isNoBlock, isD0, inBounds, step5WithoutPhantom, step5Flag, atFlag, work, flagged, receive}
+use Rattle.link.specs.EachCall.{Within, ReportsWithin}
 use Rattle.link.proofs.Tests.{not-below}
 use Rattle.link.proofs.ReceiverBounds.{Bounds, bounds}
-
--- A packet's length is within the limit, and within the area that is named. No more octets are held than a receiver decodes. 14 is the last
--- refusal.
-abbrev pub Within : Agreed → Answer → ReceiverEnd → Type 0
-Within g done e = Unit {0}
-Within g (octet x) e = Unit {0}
-Within g idle e = Unit {0}
-Within g quiet e = Unit {0}
-Within g (packet second n) e = (n ≤ length (areaOf second e)) × (n ≤ g .limit)
-Within g (held n replaced) e = n ≤ mostDecoded g
-Within g (refused n) e = n ≤ 14
 
 -- at a flag
 module _ (g : Agreed) (e : ReceiverEnd) (long : mostDecoded g ≤ length (work e .area)) (b : Bounds g (e .state)) where
@@ -36,8 +25,14 @@ module _ (g : Agreed) (e : ReceiverEnd) (long : mostDecoded g ≤ length (work e
   whole-within : (n : ℕ) → n + 1 ≤ mostDecoded g → Ends (step5WithoutPhantom g (e .state) (work e .area) n)
   unfolding step5WithoutPhantom
   whole-within n h =
-      branch Ends (ltb n (leastFrame g)) (λ _. omega arith)
-      (λ _. branch Ends (good (g .check) (take n (work e .area))) (λ _. (omega arith, omega arith)) (λ _. omega arith))
+      branch Ends (ltb n (leastFrame g)) (λ _. (omega arith, omega arith))
+      (λ k.
+      let least : leastFrame g ≤ n = ltb-false n (leastFrame g) k in
+      branch Ends (good (g .check) (take n (work e .area)))
+      (λ good·n.
+      let all : n - g .check .fcsLength + g .check .fcsLength ≡ n = omega arith in
+      (omega arith, omega arith, omega arith, ap (λ (i : ℕ). good (g .check) (take i (work e .area))) all ∙ good·n))
+      (λ _. (omega arith, omega arith)))
 
   flag-within : Ends (atFlag g (e .state) (work e .area))
   unfolding atFlag step5Flag
@@ -46,21 +41,21 @@ module _ (g : Agreed) (e : ReceiverEnd) (long : mostDecoded g ≤ length (work e
       let deep = b .deep in
       branch Ends (r .framed)
       (λ _. branch Ends (not (eqb (r .refusal) 0))
-      (λ k. omega (arith, b .refusals (eqb-false (r .refusal) 0 (not-true (eqb (r .refusal) 0) k)) .1))
-      (λ _. branch Ends (isNoBlock (r .last)) (λ _. omega arith)
-      (λ _. branch Ends (ltb 0 (r .left)) (λ _. branch Ends (g .pre) (λ _. deep) (λ _. omega arith))
-      (λ _. branch Ends (isD0 (r .last)) (λ _. omega arith) (λ _. whole-within (r .decoded - 1) (omega arith))))))
+      (λ k. let some = b .refusals (eqb-false (r .refusal) 0 (not-true (eqb (r .refusal) 0) k)) in (omega (arith, some .0), omega (arith, some .1)))
+      (λ _. branch Ends (isNoBlock (r .last)) (λ _. (omega arith, omega arith))
+      (λ _. branch Ends (ltb 0 (r .left)) (λ _. branch Ends (g .pre) (λ _. deep) (λ _. (omega arith, omega arith)))
+      (λ _. branch Ends (isD0 (r .last)) (λ _. (omega arith, omega arith)) (λ _. whole-within (r .decoded - 1) (omega arith))))))
       (λ _. tt)
 
 -- the call
-pub within : (e : ReceiverEnd) (x : ℕ) → Within (agreed (e .state .settings)) (receive e x .report) (receive e x .after)
+pub within : ReportsWithin
 unfolding receive
 within e x =
     let g = agreed (e .state .settings) in
     let most = mostDecoded g in
     let P : Receive → Type 0 = λ h. Within g (h .report) (h .after) in
-    branch P (ltb (length (e .first)) most || ltb (length (e .second)) most) (λ _. omega arith)
-    (λ s. branch P (not (inBounds g (e .state))) (λ _. omega arith)
+    branch P (ltb (length (e .first)) most || ltb (length (e .second)) most) (λ _. (omega arith, omega arith))
+    (λ s. branch P (not (inBounds g (e .state))) (λ _. (omega arith, omega arith))
     (λ i.
     let long = not-below (length (e .first)) most (length (e .second)) most s in
     branch P (eqb x flag)

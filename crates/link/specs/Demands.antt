@@ -1,18 +1,20 @@
 -- The demands (docs/DEMANDS.md), each proved in proofs/. What a call answers is said by its contract; here is what follows of all calls.
-use mathlib.Core.Bool.{true, false, not}
-use mathlib.Core.List.{List, [], _∷_, map, List·Memᴰ}
-use mathlib.Core.Option.{Option}
+use mathlib.Core.Bool.{Bool, true, false, not, _&&_}
+use mathlib.Core.List.{List, [], _∷_, _++_, map, List·Memᴰ}
+use mathlib.Core.Option.{Option, some}
 use mathlib.Core.Path.{_≡_}
 use Prim.Native.Nat.{ℕ, _+_, _/_, _≤_}
 use lib.ListN.{length, take, replicate}
-use Rattle.cobs.specs.CodeBlocks.{frame, flag}
+use Rattle.cobs.specs.CodeBlocks.{frame, withPhantom, flag, Block, AllAllowed, decodedOctets, lineOctets}
 use Rattle.link.specs.Agreed.{agreed, leastPacket, largestFrame, mostDecoded}
-use Rattle.link.specs.Answers.{Answer, octet, refused}
-use Rattle.link.specs.Sender.{Lane, Sender, SenderEnd, outAnswer, load, next}
+use Rattle.link.specs.Answers.{Answer, octet, idle, refused}
+use Rattle.link.specs.Sender.{Lane, low, high, Sender, SenderEnd, outAnswer, load, next}
 use Rattle.link.specs.Sender as sender
 use Rattle.link.specs.Receiver.{Fragment, nothingHeld, holds, ReceiverEnd, Receive, areaOf, receive}
 use Rattle.link.specs.Receiver as receiver
-use Rattle.link.specs.Runs.{SenderCall, loading, nextOctet, freshStation, afterNext, run, senderAnswers, Written, written, writtenOctets, receives, received, packetIn, refusalIn, AllAsExpected, leftAside, collect, closedPackets}
+use Rattle.link.specs.ReceiverParts.{ReceiverReady}
+use Rattle.link.specs.Runs.{SenderCall, loading, nextOctet, Station, freshStation, afterNext, run, senderAnswers, loadedInto, Written, written, writtenOctets, sentBy, atTrue, atFalse, receives, received, packetIn, packetsIn, refusalsIn, underWay, leftAside, AllArrive, AllAsExpected, closedPackets}
+use Rattle.link.specs.Progress.{callsToEmpty}
 
 -- ---- in bounds
 
@@ -36,15 +38,15 @@ pub record NeverOutOfBounds : Type 0 where
 
 -- ---- demands 2 and 3
 
--- Packets come through: every octet is answered as expected, and so by lists, the reported packets are those closed, in closing order, and no
--- refusal is reported; the frames of a packet begun up to the chosen flag are left aside.
-pub record PacketsComeThrough (es : List Written) (hs : List Receive) : Type 0 where
-  pub each : AllAsExpected es hs
-  pub packets : collect packetIn es hs ≡ closedPackets es
-  pub refusals : collect refusalIn es hs ≡ []
+-- Packets come through: every octet is answered as expected; and so by lists, the reported packets are those closed, in closing order, and no
+-- refusal is reported. replaces: whether the first fragment that is held takes an older one's place; no later one does.
+pub record PacketsComeThrough (replaces : Bool) (es : List Written) (hs : List Receive) : Type 0 where
+  pub each : AllAsExpected replaces es hs
+  pub packets : packetsIn hs ≡ closedPackets es
+  pub refusals : refusalsIn hs ≡ []
 
--- Demand 2, any list of calls: between fresh ends of the same settings every closed packet is reported at its closing flag, in order, and
--- nothing is refused. No packet is left aside: none was begun before.
+-- Demand 2, any list of calls: between fresh ends of the same settings every closed packet is reported at its closing flag, in order,
+-- nothing is refused, and no fragment takes another's place. No octet and no report is left out.
 abbrev pub SoundLine : ℕ → Type 0
 SoundLine settings =
     (low high first second : List ℕ)
@@ -52,26 +54,73 @@ SoundLine settings =
     → mostDecoded (agreed settings) ≤ length second
     → (calls : List SenderCall)
     → (let es = written (freshStation settings low high) calls in
-    PacketsComeThrough es (receives (freshReceiver settings first second) (writtenOctets es)))
+    PacketsComeThrough false es (receives (freshReceiver settings first second) (writtenOctets es)))
 
--- Demand 2, one packet: loaded into either lane of a fresh sender it is delivered, unaltered and alone, by at most n + 1 + floor(n / 207)
--- next-octet calls and one for the flag, n the octets of its frame.
+-- all areas are long enough for the calls of both ends to be taken
+pub record LongEnough (settings : ℕ) (lowArea highArea firstArea secondArea : List ℕ) : Type 0 where
+  pub low : largestFrame (agreed settings) ≤ length lowArea
+  pub high : largestFrame (agreed settings) ≤ length highArea
+  pub first : mostDecoded (agreed settings) ≤ length firstArea
+  pub second : mostDecoded (agreed settings) ≤ length secondArea
+
+-- Demand 2, nothing loaded is lost, nothing is late: after any list of calls, so many next-octet calls as `callsToEmpty` says, or more.
+-- Then the sender is idle; and the packets reported at the octets of either lane are those that were loaded into it, in order.
+abbrev pub NothingLoadedIsLost : ℕ → Type 0
+NothingLoadedIsLost settings =
+    (low high first second : List ℕ)
+    → LongEnough settings low high first second
+    → (calls : List SenderCall)
+    → (n : ℕ)
+    → (let w = freshStation settings low high in
+    let all = calls ++ replicate n nextOctet in
+    let es = written w all in
+    callsToEmpty (run w calls .end .state) ≤ n
+    → (outAnswer (next (run w all .end) .out) ≡ idle)
+    × ((l : Lane) → packetsIn (atTrue (sentBy l es) (receives (freshReceiver settings first second) (writtenOctets es))) ≡ loadedInto l w calls))
+
+-- Demand 2, one packet: loaded into either lane of a fresh sender it is delivered, unaltered and alone, by n + 1 + floor(n / 207) calls of
+-- next octet and one for the flag, n the octets of its frame.
 abbrev pub Delivery : ℕ → Type 0
 Delivery settings =
     (low high first second : List ℕ)
-    → largestFrame (agreed settings) ≤ length low
-    → largestFrame (agreed settings) ≤ length high
-    → mostDecoded (agreed settings) ≤ length first
-    → mostDecoded (agreed settings) ≤ length second
+    → LongEnough settings low high first second
     → (l : Lane)
     → (p : List ℕ)
     → leastPacket ≤ length p
     → length p ≤ agreed settings .limit
     → (let n = length (frame (agreed settings .check) p) in
-    (k : ℕ)
-    × (k ≤ n + 1 + n / 207 + 1)
-    × (let es = written (freshStation settings low high) (loading l p ∷ replicate k nextOctet) in
-    collect packetIn es (receives (freshReceiver settings first second) (writtenOctets es)) ≡ p ∷ []))
+    let es = written (freshStation settings low high) (loading l p ∷ replicate (n + 1 + n / 207 + 1) nextOctet) in
+    packetsIn (receives (freshReceiver settings first second) (writtenOctets es)) ≡ p ∷ [])
+
+-- What demand 3 says of the octets after the chosen flag. upTo: what was written up to and with that flag; w: the sender behind it; e: the
+-- receiver behind it; es: what is written then; hs: the receiver's calls for it.
+--   one: no high packet is under way at the flag, so at most one is, the low lane's
+--   suspended: it is under way exactly if the sender has it marked as suspended
+--   arrive: every octet arrives
+--   aside: what is left aside is at octets of the packet that the low lane holds at the flag, and of no other
+--   through: all else comes through. A fragment that the receiver holds at the flag is replaced by the first one that is held then, unless
+--   a low packet is under way: with its D1 the older fragment is given up.
+pub record AfterChosenFlag (upTo : List Written) (w : Station) (e : ReceiverEnd) (es : List Written) (hs : List Receive) : Type 0 where
+  pub one : underWay high false upTo ≡ false
+  pub suspended : underWay low false upTo ≡ w .end .state .suspended
+  pub arrive : AllArrive hs
+  pub aside : (f : Written) → List·Memᴰ f (atTrue (leftAside (underWay low false upTo) es) es) → f .sentFor ≡ w .lanes .low
+  pub through : PacketsComeThrough (not (underWay low false upTo) && receiver.isHeld (e .state .held))
+      (atFalse (leftAside (underWay low false upTo) es) es)
+      (atFalse (leftAside (underWay low false upTo) es) hs)
+
+-- And from any sender that keeps to the code table, whatever blocks it chooses: a frame of blocks that the table allows is reported at its
+-- flag, by every receiver that is out of a frame, in bounds and with areas long enough.
+abbrev pub AnyBlocks : Type 0
+AnyBlocks =
+    (e : ReceiverEnd) → ReceiverReady e → e .state .framed ≡ false
+    → (bs : List Block) (p : List ℕ)
+    → (let g = agreed (e .state .settings) in
+    AllAllowed (g .zxe) bs
+    → decodedOctets bs ≡ withPhantom (frame (g .check) p)
+    → leastPacket ≤ length p
+    → length p ≤ g .limit
+    → packetIn (receive (received e (lineOctets bs)) flag) ≡ some p)
 
 -- Demand 3.
 --   every list of load and next-octet calls from a fresh sender, refused ones included, and every flag written: `before`, the call that
@@ -81,8 +130,8 @@ Delivery settings =
 --   nobody else writes state or areas: each call has them as the call before left them
 --   both ends have the same settings: both are opened with them
 --   the receiver's areas are long enough for its calls to be taken; were the sender's too short, no flag would be written
---   the packet suspended at the flag is one that had sent an octet by then and is not closed: only the low lane may hold such a packet,
---   and its frames are left aside
+--   the packet suspended at the flag is one that had sent an octet by then and is not closed: at the flags that end its frames, up to and
+--   with its closing flag, what is reported is left aside
 abbrev pub Demand3 : ℕ → Type 0
 Demand3 settings =
     (low high first second : List ℕ)
@@ -90,12 +139,12 @@ Demand3 settings =
     → mostDecoded (agreed settings) ≤ length second
     → (before after : List SenderCall)
     → (noise : List ℕ)
-    → (let w = run (freshStation settings low high) before in
-    let w₁ = afterNext true w in
-    let e = received (freshReceiver settings first second) noise in
-    let es = written w₁ after in
+    → (let v = freshStation settings low high in
+    let w = run v before in
+    let e = receive (received (freshReceiver settings first second) noise) flag .after in
+    let es = written (afterNext w) after in
     outAnswer (next (w .end) .out) ≡ octet flag
-    → (leftAside (w₁ .lanes .high) ≡ false) × PacketsComeThrough es (receives (receive e flag .after) (writtenOctets es)))
+    → AfterChosenFlag (written v (before ++ (nextOctet ∷ []))) (afterNext w) e es (receives e (writtenOctets es)))
 
 -- ---- what the reports depend on
 

@@ -6,6 +6,9 @@ pub mod Sender
 pub mod SenderParts
 pub mod Receiver
 pub mod ReceiverParts
+pub mod EachCall
 pub mod Runs
+pub mod Progress
 pub mod Demands
 pub mod Marked
+pub mod Examples

@@ -7,9 +7,9 @@ use Prim.Native.Nat.{ℕ, _+_}
 use lib.ListN.{length, replicate}
 use Rattle.cobs.specs.CodeBlocks.{flag, choice}
 use Rattle.link.specs.Answers.{Answer, octet, packet, held, refused}
-use Rattle.link.specs.Sender.{Lane, low, high}
-use Rattle.link.specs.Receiver.{receive}
-use Rattle.link.specs.Runs.{SenderCall, loading, nextOctet, freshStation, run, afterNext, written, writtenOctets, receives, received, notQuiet, packetIn, leftAside, collect}
+use Rattle.link.specs.Sender.{Lane, low, high, outAnswer, next}
+use Rattle.link.specs.Receiver.{Receive, receive}
+use Rattle.link.specs.Runs.{SenderCall, loading, nextOctet, Station, freshStation, run, afterNext, Written, written, writtenOctets, atTrue, atFalse, receives, received, notQuiet, underWay, leftAside}
 use Rattle.link.specs.Demands.{freshReceiver, ReportAndPacket, reportAndPacket}
 
 -- sent: with these settings this packet is sent so, from either lane, and then the sender is idle
@@ -42,16 +42,16 @@ Says (reported settings line ts) = map reportAndPacket (notQuiet (receives (fres
 Says (refusedTen line ten) = IsRefusedTen ten (receive (received (freshReceiver 0x03 receiverArea receiverArea) line) flag .report)
 Says (chosen rest code) = choice true rest .code ≡ code
 
-abbrev packetOf : Bool → List ℕ → ReportAndPacket
+abbrev pub packetOf : Bool → List ℕ → ReportAndPacket
 packetOf inSecond p = record { report = packet inSecond (length p); packet = some p }
 
-abbrev heldOf : ℕ → Bool → ReportAndPacket
+abbrev pub heldOf : ℕ → Bool → ReportAndPacket
 heldOf n replaced = record { report = held n replaced; packet = none }
 
-abbrev refusedBy : ℕ → ReportAndPacket
+abbrev pub refusedBy : ℕ → ReportAndPacket
 refusedBy n = record { report = refused n; packet = none }
 
-abbrev digits : List ℕ
+abbrev pub digits : List ℕ
 digits = 0x31 ∷ 0x32 ∷ 0x33 ∷ 0x34 ∷ 0x35 ∷ 0x36 ∷ 0x37 ∷ 0x38 ∷ 0x39 ∷ []
 
 abbrev capture : List ℕ
@@ -84,20 +84,55 @@ MarkedCases = (c : Case) → List·Memᴰ c cases → Says c
 -- ---- demand 3 at work
 
 -- A run that demand 3 speaks of, so that a reader sees what it leaves aside. Noise left a fragment held. The low packet 31 32 33 has sent
--- two octets when the high packet 41 42 is loaded; the chosen flag is the one that breaks it off. Later 43 44 is loaded too.
+-- two octets when the high packet 41 42 is loaded; the chosen flag is the one that breaks it off.
 abbrev noise : List ℕ
 noise = 0x05 ∷ 0x58 ∷ 0x7E ∷ 0x06 ∷ 0x59 ∷ []
 
 abbrev before : List SenderCall
 before = loading low (0x31 ∷ 0x32 ∷ 0x33 ∷ []) ∷ nextOctet ∷ nextOctet ∷ loading high (0x41 ∷ 0x42 ∷ []) ∷ []
 
+-- After it 41 42 and the rest of 31 32 33 are sent. The low packet 51 52 53, begun then, is broken off for 43 44; and, straight after its D1, for
+-- 45 46. Then it is sent to its end.
 abbrev after : List SenderCall
-after = replicate 6 nextOctet ++ (loading high (0x43 ∷ 0x44 ∷ []) ∷ replicate 20 nextOctet)
+after =
+    replicate 13 nextOctet
+    ++ (loading low (0x51 ∷ 0x52 ∷ 0x53 ∷ []) ∷ nextOctet ∷ nextOctet ∷ loading high (0x43 ∷ 0x44 ∷ []) ∷ [])
+    ++ replicate 8 nextOctet
+    ++ (loading high (0x45 ∷ 0x46 ∷ []) ∷ [])
+    ++ replicate 15 nextOctet
 
--- both high packets come through; the low one is left aside, though its last frame is written too
-abbrev pub AtWork : Type 0
-AtWork =
-    let w = afterNext true (run (freshStation 0x03 senderArea senderArea) before) in
-    let e = receive (received (freshReceiver 0x03 receiverArea receiverArea) noise) flag .after in
-    let es = written w after in
-    (collect packetIn es (receives e (writtenOctets es)) ≡ (0x41 ∷ 0x42 ∷ []) ∷ (0x43 ∷ 0x44 ∷ []) ∷ []) × (leftAside (w .lanes .low) ≡ true)
+-- the sender at the flag; what is written after it; and the receiver's calls for that
+abbrev atFlag : Station
+atFlag = run (freshStation 0x03 senderArea senderArea) before
+
+abbrev afterFlag : List Written
+afterFlag = written (afterNext atFlag) after
+
+abbrev callsAfterFlag : List Receive
+callsAfterFlag = receives (receive (received (freshReceiver 0x03 receiverArea receiverArea) noise) flag .after) (writtenOctets afterFlag)
+
+--   premise: the chosen octet is a flag
+--   underWay: at it the low packet is under way
+--   line: what is written after it
+--   through: all packets that are begun after it come through, the fragments of 51 52 53 on their way; the fragment of the noise was given up
+--   aside: what is reported at the closing flag of 31 32 33, whose rest is joined to that fragment
+pub record AtWork : Type 0 where
+  pub premise : outAnswer (next (atFlag .end) .out) ≡ octet flag
+  pub underWay : underWay low false (written (freshStation 0x03 senderArea senderArea) (before ++ (nextOctet ∷ []))) ≡ true
+  pub line : writtenOctets afterFlag
+      ≡ (0x05 ∷ 0x41 ∷ 0x42 ∷ 0xEF ∷ 0x31 ∷ 0x7E ∷ [])
+      ++ (0xD1 ∷ 0x05 ∷ 0x32 ∷ 0x33 ∷ 0xB4 ∷ 0x9C ∷ 0x7E ∷ [])
+      ++ (0x06 ∷ 0x51 ∷ 0x7E ∷ [])
+      ++ (0x05 ∷ 0x43 ∷ 0x44 ∷ 0x69 ∷ 0x67 ∷ 0x7E ∷ [])
+      ++ (0xD1 ∷ 0x02 ∷ 0x7E ∷ [])
+      ++ (0x05 ∷ 0x45 ∷ 0x46 ∷ 0xAB ∷ 0x10 ∷ 0x7E ∷ [])
+      ++ (0xD1 ∷ 0x05 ∷ 0x52 ∷ 0x53 ∷ 0xAA ∷ 0x9F ∷ 0x7E ∷ [])
+  pub through : map reportAndPacket (notQuiet (atFalse (leftAside true afterFlag) callsAfterFlag))
+      ≡ packetOf false (0x41 ∷ 0x42 ∷ [])
+      ∷ heldOf 1 false
+      ∷ packetOf false (0x43 ∷ 0x44 ∷ [])
+      ∷ heldOf 1 false
+      ∷ packetOf false (0x45 ∷ 0x46 ∷ [])
+      ∷ packetOf true (0x51 ∷ 0x52 ∷ 0x53 ∷ [])
+      ∷ []
+  pub aside : map reportAndPacket (notQuiet (atTrue (leftAside true afterFlag) callsAfterFlag)) ≡ refusedBy 14 ∷ []

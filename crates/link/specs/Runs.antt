@@ -1,5 +1,5 @@
 -- Runs of the two ends, and what is noted of each written octet (docs/DEMANDS.md; document 01, "Receiver", the paragraphs on demand 3).
-use mathlib.Core.Bool.{Bool, true, false, _||_}
+use mathlib.Core.Bool.{Bool, true, false, not, _&&_, _||_}
 use mathlib.Core.List.{List, [], _∷_, map}
 use mathlib.Core.Option.{Option, none, some}
 use mathlib.Core.Path.{_≡_}
@@ -8,7 +8,7 @@ use lib.ListN.{take}
 use Rattle.fcs.specs.Notation.{if_then_else_}
 use Rattle.cobs.specs.CodeBlocks.{flag}
 use Rattle.link.specs.Answers.{Answer, done, octet, idle, quiet, packet, held, refused, isQuiet}
-use Rattle.link.specs.Sender.{Lane, low, high, SenderEnd, Load, Out, closes, breaksOff, sends, sendsNothing, refuses, Step, outAnswer, laneArea, load, next}
+use Rattle.link.specs.Sender.{Lane, low, high, SenderEnd, Load, Out, closes, breaksOff, sends, sendsNothing, refuses, Step, isLow, outAnswer, laneArea, load, next}
 use Rattle.link.specs.Sender as sender
 use Rattle.link.specs.Receiver.{ReceiverEnd, Receive, areaOf, receive}
 
@@ -19,16 +19,10 @@ pub data SenderCall : Type 0 where
   loading : Lane → List ℕ → SenderCall
   nextOctet : SenderCall
 
--- A packet that a lane holds: its octets as they were loaded, and whether it was begun up to the chosen flag, that is, whether an octet was sent
--- by then with its lane on the line, D1 and 02 included.
-pub record LoadedPacket : Type 0 where
-  pub octets : List ℕ
-  pub begunUpToFlag : Bool
-
--- the packet of each lane
+-- the packet that each lane holds, as it was loaded
 pub record Lanes : Type 0 where
-  pub low : Option LoadedPacket
-  pub high : Option LoadedPacket
+  pub low : Option (List ℕ)
+  pub high : Option (List ℕ)
 
 -- The sender with its areas, and beside it what no call looks at: the packets that its lanes hold.
 pub record Station : Type 0 where
@@ -43,26 +37,21 @@ freshStation settings lowArea highArea =
       lanes = record { low = none; high = none };
     }
 
-abbrev pub lanePacket : Lane → Lanes → Option LoadedPacket
+abbrev pub lanePacket : Lane → Lanes → Option (List ℕ)
 lanePacket low b = b .low
 lanePacket high b = b .high
 
-abbrev pub withPacket : Lane → Option LoadedPacket → Lanes → Lanes
+abbrev pub withPacket : Lane → Option (List ℕ) → Lanes → Lanes
 withPacket low m b = record { low = m; high = b .high }
 withPacket high m b = record { low = b .low; high = m }
 
--- A packet for which an octet is sent: up to and with the chosen flag (`upToFlag`) it is noted as begun; afterwards nothing is noted any more.
-abbrev pub noteBegun : Bool → Option LoadedPacket → Option LoadedPacket
-noteBegun upToFlag none = none
-noteBegun upToFlag (some m) = some (record { octets = m .octets; begunUpToFlag = upToFlag || m .begunUpToFlag })
-
 -- the lanes after a call of next octet: a closed packet leaves its lane
-abbrev pub lanesAfter : Bool → Out → Lanes → Lanes
-lanesAfter upToFlag (closes l) b = withPacket l none b
-lanesAfter upToFlag breaksOff b = withPacket low (noteBegun upToFlag (b .low)) b
-lanesAfter upToFlag (sends l x) b = withPacket l (noteBegun upToFlag (lanePacket l b)) b
-lanesAfter upToFlag sendsNothing b = b
-lanesAfter upToFlag (refuses n) b = b
+abbrev pub lanesAfter : Out → Lanes → Lanes
+lanesAfter (closes l) b = withPacket l none b
+lanesAfter breaksOff b = b
+lanesAfter (sends l x) b = b
+lanesAfter sendsNothing b = b
+lanesAfter (refuses n) b = b
 
 -- the lanes after a load: the packet enters its lane where the load is Done
 abbrev pub isDone : Answer → Bool
@@ -82,40 +71,52 @@ abbrev pub loadedBy : Load → Lane → List ℕ → Station → Station
 loadedBy t l p w =
     record {
       end = withArea l t (w .end);
-      lanes = if isDone (t .answer) then withPacket l (some (record { octets = p; begunUpToFlag = false })) (w .lanes) else w .lanes;
+      lanes = if isDone (t .answer) then withPacket l (some p) (w .lanes) else w .lanes;
     }
 
 -- the station after a call, which has the state and the areas as the call before left them
 unfoldable pub afterLoad : Lane → List ℕ → Station → Station
 afterLoad l p w = loadedBy (load l p (w .end .state) (laneArea l (w .end))) l p w
 
-abbrev pub afterStep : Bool → Station → Step → Station
-afterStep upToFlag w t =
-    record { end = record { state = t .state; low = w .end .low; high = w .end .high }; lanes = lanesAfter upToFlag (t .out) (w .lanes) }
+abbrev pub afterStep : Station → Step → Station
+afterStep w t = record { end = record { state = t .state; low = w .end .low; high = w .end .high }; lanes = lanesAfter (t .out) (w .lanes) }
 
-unfoldable pub afterNext : Bool → Station → Station
-afterNext upToFlag w = afterStep upToFlag w (next (w .end))
+unfoldable pub afterNext : Station → Station
+afterNext w = afterStep w (next (w .end))
 
--- the station after a list of calls, up to the chosen flag
+-- the station after a list of calls
 unfoldable pub run : Station → List SenderCall → Station
 run w [] = w
 run w (loading l p ∷ cs) = run (afterLoad l p w) cs
-run w (nextOctet ∷ cs) = run (afterNext true w) cs
+run w (nextOctet ∷ cs) = run (afterNext w) cs
 
 -- what the calls of a list answer
 unfoldable pub senderAnswers : Station → List SenderCall → List Answer
 senderAnswers w [] = []
 senderAnswers w (loading l p ∷ cs) = load l p (w .end .state) (laneArea l (w .end)) .answer ∷ senderAnswers (afterLoad l p w) cs
-senderAnswers w (nextOctet ∷ cs) = outAnswer (next (w .end) .out) ∷ senderAnswers (afterNext true w) cs
+senderAnswers w (nextOctet ∷ cs) = outAnswer (next (w .end) .out) ∷ senderAnswers (afterNext w) cs
+
+abbrev pub sameLane : Lane → Lane → Bool
+sameLane low l = isLow l
+sameLane high l = not (isLow l)
+
+-- the packets that a list of calls loads into a lane: those whose load is Done
+unfoldable pub loadedInto : Lane → Station → List SenderCall → List (List ℕ)
+loadedInto l w [] = []
+loadedInto l w (loading k p ∷ cs) =
+    if sameLane l k && isDone (load k p (w .end .state) (laneArea k (w .end)) .answer)
+    then p ∷ loadedInto l (afterLoad k p w) cs
+    else loadedInto l (afterLoad k p w) cs
+loadedInto l w (nextOctet ∷ cs) = loadedInto l (afterNext w) cs
 
 -- ---- written octets
 
--- A written octet, one that a call of next octet answered: what the call did, the octet, the packet it was sent for, and the low lane's
+-- A written octet, one that a call of next octet answered: what the call did, the octet, the packet that its lane holds, and the low lane's
 -- position at that call (whichever lane sent it).
 pub record Written : Type 0 where
   pub out : Out
   pub octet : ℕ
-  pub sentFor : Option LoadedPacket
+  pub sentFor : Option (List ℕ)
   pub lowPosition : ℕ
 
 -- what a call writes, before what the later calls write
@@ -127,14 +128,36 @@ writes (sends l x) w es = record { out = sends l x; octet = x; sentFor = lanePac
 writes sendsNothing w es = es
 writes (refuses n) w es = es
 
--- what a list of calls writes, after the chosen flag
+-- what a list of calls writes
 unfoldable pub written : Station → List SenderCall → List Written
 written w [] = []
 written w (loading l p ∷ cs) = written (afterLoad l p w) cs
-written w (nextOctet ∷ cs) = writes (next (w .end) .out) w (written (afterNext false w) cs)
+written w (nextOctet ∷ cs) = writes (next (w .end) .out) w (written (afterNext w) cs)
 
 abbrev pub writtenOctets : List Written → List ℕ
 writtenOctets = map (λ (e : Written). e .octet)
+
+-- whose octet it is: of the lane that is on the line at that call
+abbrev pub isOf : Lane → Out → Bool
+isOf l (closes k) = sameLane l k
+isOf l breaksOff = isLow l
+isOf l (sends k x) = sameLane l k
+isOf l sendsNothing = false
+isOf l (refuses n) = false
+
+-- of each written octet, whether it is the lane's
+abbrev pub sentBy : Lane → List Written → List Bool
+sentBy l = map (λ (e : Written). isOf l (e .out))
+
+-- The items that stand at a true mark, and those at a false one.
+abbrev pub atTrue : {A : Type 0} → List Bool → List A → List A
+atTrue [] xs = []
+atTrue (b ∷ bs) [] = []
+atTrue (true ∷ bs) (x ∷ xs) = x ∷ atTrue bs xs
+atTrue (false ∷ bs) (x ∷ xs) = atTrue bs xs
+
+abbrev pub atFalse : {A : Type 0} → List Bool → List A → List A
+atFalse bs xs = atTrue (map not bs) xs
 
 -- ---- the receiver's calls, one for each octet
 
@@ -177,6 +200,61 @@ refusalOf (refused n) = some n
 abbrev pub refusalIn : Receive → Option ℕ
 refusalIn h = refusalOf (h .report)
 
+-- the items that there are, in order
+abbrev pub present : {A : Type 0} → List (Option A) → List A
+present [] = []
+present (none ∷ os) = present os
+present (some x ∷ os) = x ∷ present os
+
+-- all packets and all refusals that are reported
+abbrev pub packetsIn : List Receive → List (List ℕ)
+packetsIn hs = present (map packetIn hs)
+
+abbrev pub refusalsIn : List Receive → List ℕ
+refusalsIn hs = present (map refusalIn hs)
+
+-- ---- a packet under way
+
+-- A packet is begun by the first octet that its lane sends, D1 and 02 included, and over with its closing flag. Whether a lane's packet is
+-- begun and not over, after an octet, where it was so before (b),
+abbrev pub underWayAfter : Lane → Bool → Out → Bool
+underWayAfter l b (closes k) = b && not (sameLane l k)
+underWayAfter l b breaksOff = b || isLow l
+underWayAfter l b (sends k x) = b || sameLane l k
+underWayAfter l b sendsNothing = b
+underWayAfter l b (refuses n) = b
+
+-- and after a list of written octets
+unfoldable pub underWay : Lane → Bool → List Written → Bool
+underWay l b [] = b
+underWay l b (e ∷ es) = underWay l (underWayAfter l b (e .out)) es
+
+-- ---- left aside
+
+-- After the chosen flag, where the low packet is under way at it (b): what is reported at the flags that end that packet's frames, and at no
+-- other octet,
+abbrev pub endsItsFrame : Bool → Out → Bool
+endsItsFrame b (closes low) = b
+endsItsFrame b (closes high) = false
+endsItsFrame b breaksOff = b
+endsItsFrame b (sends l x) = false
+endsItsFrame b sendsNothing = false
+endsItsFrame b (refuses n) = false
+
+-- up to and with its closing flag
+abbrev pub asideAfter : Bool → Out → Bool
+asideAfter b (closes low) = false
+asideAfter b (closes high) = b
+asideAfter b breaksOff = b
+asideAfter b (sends l x) = b
+asideAfter b sendsNothing = b
+asideAfter b (refuses n) = b
+
+-- of each written octet, whether what is reported at it is left aside
+unfoldable pub leftAside : Bool → List Written → List Bool
+leftAside b [] = []
+leftAside b (e ∷ es) = endsItsFrame b (e .out) ∷ leftAside (asideAfter b (e .out)) es
+
 -- ---- what the receiver is expected to answer to each written octet
 
 -- an octet arrives: the call for it is answered neither 2 nor 3
@@ -184,61 +262,44 @@ pub record Arrives (a : Answer) : Type 0 where
   pub areas : a ≡ refused 2 → ⊥
   pub bounds : a ≡ refused 3 → ⊥
 
--- a Held report of n octets
-pub record HeldReport (n : ℕ) (a : Answer) : Type 0 where
-  pub replaced : Bool
-  pub is : a ≡ held n replaced
+abbrev pub AllArrive : List Receive → Type 0
+AllArrive [] = Unit {0}
+AllArrive (h ∷ hs) = Arrives (h .report) × AllArrive hs
 
--- Quiet to each octet that is no flag; at a closing flag the packet; at a flag that breaks off, Held with the count of octets of D that were
--- covered, the low lane's position n. What is reported of the frames of a packet begun up to the chosen flag is left aside.
-abbrev pub ExpectedReport : Out → Option LoadedPacket → ℕ → Receive → Type 0
-ExpectedReport (closes l) none n h = ⊥
-ExpectedReport (closes l) (some m) n h = m .begunUpToFlag ≡ false → packetIn h ≡ some (m .octets)
-ExpectedReport breaksOff none n h = ⊥
-ExpectedReport breaksOff (some m) n h = m .begunUpToFlag ≡ false → HeldReport n (h .report)
-ExpectedReport (sends l x) m n h = h .report ≡ quiet
-ExpectedReport sendsNothing m n h = ⊥
-ExpectedReport (refuses k) m n h = ⊥
+-- Quiet to each octet that is no flag; at a closing flag the packet; at a flag that breaks off Held, with the count of octets of D that were
+-- covered, the low lane's position n. replaces: whether the receiver still holds a fragment from before, whose place this one takes.
+abbrev pub ExpectedReport : Bool → Out → Option (List ℕ) → ℕ → Receive → Type 0
+ExpectedReport replaces (closes l) none n h = ⊥
+ExpectedReport replaces (closes l) (some p) n h = packetIn h ≡ some p
+ExpectedReport replaces breaksOff m n h = h .report ≡ held n replaces
+ExpectedReport replaces (sends l x) m n h = h .report ≡ quiet
+ExpectedReport replaces sendsNothing m n h = ⊥
+ExpectedReport replaces (refuses k) m n h = ⊥
 
-pub record AsExpected (e : Written) (h : Receive) : Type 0 where
-  pub arrives : Arrives (h .report)
-  pub expected : ExpectedReport (e .out) (e .sentFor) (e .lowPosition) h
+-- only the first fragment can take an older one's place
+abbrev pub replacesAfter : Bool → Out → Bool
+replacesAfter b (closes l) = b
+replacesAfter b breaksOff = false
+replacesAfter b (sends l x) = b
+replacesAfter b sendsNothing = b
+replacesAfter b (refuses k) = b
 
 -- so octet by octet
-abbrev pub AllAsExpected : List Written → List Receive → Type 0
-AllAsExpected [] [] = Unit {0}
-AllAsExpected [] (h ∷ hs) = ⊥
-AllAsExpected (e ∷ es) [] = ⊥
-AllAsExpected (e ∷ es) (h ∷ hs) = AsExpected e h × AllAsExpected es hs
+abbrev pub AllAsExpected : Bool → List Written → List Receive → Type 0
+AllAsExpected b [] [] = Unit {0}
+AllAsExpected b [] (h ∷ hs) = ⊥
+AllAsExpected b (e ∷ es) [] = ⊥
+AllAsExpected b (e ∷ es) (h ∷ hs) = ExpectedReport b (e .out) (e .sentFor) (e .lowPosition) h × AllAsExpected (replacesAfter b (e .out)) es hs
 
 -- ---- the same by lists
 
--- left aside: a packet begun up to the chosen flag
-abbrev pub leftAside : Option LoadedPacket → Bool
-leftAside none = false
-leftAside (some m) = m .begunUpToFlag
-
--- one item before others, unless its packet is left aside or there is none
-abbrev pub gather : {A : Type 0} → Bool → Option A → List A → List A
-gather true o xs = xs
-gather false none xs = xs
-gather false (some x) xs = x ∷ xs
-
--- what f finds in the receiver's calls, but those for octets of packets that are left aside
-abbrev pub collect : {A : Type 0} → (Receive → Option A) → List Written → List Receive → List A
-collect f [] hs = []
-collect f (e ∷ es) [] = []
-collect f (e ∷ es) (h ∷ hs) = gather (leftAside (e .sentFor)) (f h) (collect f es hs)
-
--- the packets that are closed, in closing order, but those left aside
-abbrev pub closedBy : Out → Option LoadedPacket → Option (List ℕ)
-closedBy (closes l) none = none
-closedBy (closes l) (some m) = some (m .octets)
+-- the packets that are closed, in closing order
+abbrev pub closedBy : Out → Option (List ℕ) → Option (List ℕ)
+closedBy (closes l) m = m
 closedBy breaksOff m = none
 closedBy (sends l x) m = none
 closedBy sendsNothing m = none
 closedBy (refuses k) m = none
 
 abbrev pub closedPackets : List Written → List (List ℕ)
-closedPackets [] = []
-closedPackets (e ∷ es) = gather (leftAside (e .sentFor)) (closedBy (e .out) (e .sentFor)) (closedPackets es)
+closedPackets es = present (map (λ (e : Written). closedBy (e .out) (e .sentFor)) es)

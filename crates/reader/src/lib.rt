@@ -9,6 +9,7 @@ ghost use Rattle.link.specs.Receiver.{write};
 ghost use Rattle.link.specs.ReceiverParts.{ReceiverReady};
 ghost use Rattle.reader.specs.Stretches.{beforeFlag, withCounts};
 ghost use Rattle.reader.specs.Reading.{usedBefore, readOn};
+ghost use Rattle.reader.specs.NothingLost.{AsTheCalls, FirstThenRest, StretchesJoin, AllReported};
 use link::receiver::Receiver;
 use link::receiver::Report;
 
@@ -147,3 +148,8 @@ pub fn read_on(state: Receiver, octets: &[u8], first: &mut [u8], second: &mut [u
         used: i,
     }
 }
+
+// What is claimed of this crate: each theorem that docs/DEMANDS.md names.
+pub fn claims()
+    ensures { λ _. ⌜ AsTheCalls × FirstThenRest × StretchesJoin × AllReported ⌝ }
+{}

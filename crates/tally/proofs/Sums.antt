@@ -14,7 +14,7 @@ use Rattle.cobs.proofs.Tests.{branch, decide, and-left, and-right}
 use Rattle.link.proofs.Tests.{and-intro, true-false, false-true}
 use Rattle.link.specs.Answers.{Answer, done, octet, idle, quiet, packet, held, refused}
 use Rattle.tally.specs.Counts.{Tally, places, largestCount, emptyTally, place, countAt, raised, note}
-use Rattle.tally.specs.Sums.{total, isCounted, ofKind, Fits, EachCount, AddUp, FromEmpty}
+use Rattle.tally.specs.Sums.{total, isCounted, ofKind, Fits, LargestOf64Bits, EachCount, AddUp, FromEmpty}
 
 -- ---- a report is counted at the place of its kind, and at no other
 
@@ -61,10 +61,13 @@ has-place (refused n) =
 
 -- ---- one report
 
--- Quiet raises no count
+-- A report that is not counted raises no count. Quiet is one.
+pub note-none : (t : Tally) (r : Answer) → isCounted r ≡ false → note t r ≡ t
+unfolding note
+note-none t r e = rw (sym (has-place r) ∙ e)
+
 pub note-quiet : (t : Tally) → note t quiet ≡ t
-unfolding note place
-note-quiet t = refl
+note-quiet t = note-none t quiet refl
 
 raised-is : (n : ℕ) → n ≤ largestCount → raised n ≡ min largestCount (n + 1)
 raised-is n h =
@@ -107,6 +110,11 @@ module _ (t : Tally) (fits : Fits t) (r : Answer) where
       let l = fits .thirteen in
       simp (has-place r, e, lt-ltb _ _ (low h)) (sum-set (t .counts) (place r) (omega arith)))
       (λ e. simp (has-place r, e) (omega arith))
+
+-- ---- the largest count
+
+pub largest-of-64-bits : LargestOf64Bits
+largest-of-64-bits = refl
 
 -- ---- a list of reports
 

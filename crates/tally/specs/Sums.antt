@@ -3,7 +3,7 @@
 use mathlib.Core.Bool.{Bool, true, false, _&&_}
 use mathlib.Core.List.{List, [], _∷_, foldl, sum}
 use mathlib.Core.Path.{_≡_}
-use Prim.Native.Nat.{ℕ, _+_, _≤_, _<_, min}
+use Prim.Native.Nat.{ℕ, _+_, _^_, _≤_, _<_, min}
 use lib.Dec.{leb, eqb}
 use lib.ListN.{length}
 use Rattle.fcs.specs.Notation.{if_then_else_}
@@ -48,6 +48,10 @@ ofKind p (refused n) = leb 3 p && eqb n (p + 2)
 pub record Fits (t : Tally) : Type 0 where
   pub thirteen : length (t .counts) ≡ places
   pub small : (p : ℕ) → p < places → countAt t p ≤ largestCount
+
+-- The largest count is the largest number of 64 bits.
+abbrev pub LargestOf64Bits : Type 0
+LargestOf64Bits = largestCount + 1 ≡ 2 ^ 64
 
 -- Each count is what it was and the number of reports of its kind, or the largest if that is smaller.
 abbrev pub EachCount : Type 0

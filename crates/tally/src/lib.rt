@@ -1,8 +1,9 @@
 // The display of a reported packet, and the tally of reports (document 01, "Display, tally, capture program").
 ghost use mathlib.Core.Path.{_≡_};
 ghost use Rattle.link.specs.Answers.{reportAnswer};
-ghost use Rattle.tally.specs.Display.{front, shown};
+ghost use Rattle.tally.specs.Display.{front, shown, ShowsThePacket, WithinTheArea, BeyondTheArea};
 ghost use Rattle.tally.specs.Counts.{emptyTally, place, raised, note};
+ghost use Rattle.tally.specs.Sums.{LargestOf64Bits, EachCount, AddUp, FromEmpty};
 use link::receiver::Report;
 
 // ---- display
@@ -120,3 +121,10 @@ pub fn note_in(t: &mut Tally, r: Report)
 {
     *t = note(*t, r);
 }
+
+// ---- claims
+
+// What is claimed of this crate: each theorem that docs/DEMANDS.md names.
+pub fn claims()
+    ensures { λ _. ⌜ ShowsThePacket × WithinTheArea × BeyondTheArea × LargestOf64Bits × EachCount × AddUp × FromEmpty ⌝ }
+{}

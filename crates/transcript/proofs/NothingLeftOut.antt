@@ -15,11 +15,12 @@ use Rattle.link.specs.Agreed.{agreed}
 use Rattle.link.specs.Answers.{Answer, done, octet, idle, quiet, packet, held, refused, isQuiet}
 use Rattle.link.specs.Receiver.{ReceiverEnd, Receive, areaOf, receive}
 use Rattle.link.specs.Runs.{receives, received, notQuiet}
-use Rattle.link.proofs.Within.{Within, within, limit-is, most-is}
+use Rattle.link.specs.EachCall.{Within}
+use Rattle.link.proofs.Within.{within, limit-is, most-is}
 use Rattle.reader.specs.NothingLost.{notQuietCalls, reports}
 use Rattle.reader.proofs.NothingLost.{received-append, cuts}
 use Rattle.tally.specs.Counts.{note}
-use Rattle.tally.specs.Sums.{noted}
+use Rattle.tally.specs.Sums.{noted, isCounted}
 use Rattle.tally.proofs.Packet.{front-most}
 use Rattle.lines.specs.Lines.{Page, append, reportLine}
 use Rattle.lines.proofs.Append.{written, append-none, append-append, page-length}
@@ -44,7 +45,9 @@ fits s idle e w = omega (arith, report-most idle [] (omega arith))
 
 pub line-most : (e : ReceiverEnd) (x : ℕ) → length (lineOf (receive e x)) ≤ longestLine
 unfolding lineOf
-line-most e x = fits (e .state .settings) (receive e x .report) (receive e x .after) (within e x)
+line-most e x =
+    let h = receive e x in
+    branch (λ (l : List ℕ). length l ≤ longestLine) (isCounted (h .report)) (λ _. fits (e .state .settings) (h .report) (h .after) (within e x)) (λ _. omega arith)
 
 -- ---- the line of the first call, and those of the others
 

@@ -18,13 +18,12 @@ use Rattle.reader.proofs.NothingLost.{is-quiet}
 use Rattle.reader.proofs.Steps.{from-quiet, at-report}
 use Rattle.lines.specs.Lines.{Page, append}
 use Rattle.lines.proofs.Append.{append-none}
-use Rattle.lines.proofs.Lengths.{quiet-none}
 use Rattle.transcript.specs.Transcript.{lineOf, longestLine, Transcript, printedAfter, printOn}
 
 -- Quiet has no line
 pub quiet-line : (h : Receive) → isQuiet (h .report) ≡ true → lineOf h ≡ []
 unfolding lineOf
-quiet-line h q = rw (is-quiet (h .report) q) (quiet-none _)
+quiet-line h q = rw (is-quiet (h .report) q)
 
 quiet-page : (h : Receive) (p : Page) → isQuiet (h .report) ≡ true → append p (lineOf h) ≡ p
 quiet-page h p q = rw (quiet-line h q) (sym (append-none p))

@@ -7,6 +7,7 @@ use Rattle.fcs.specs.Notation.{if_then_else_}
 use Rattle.link.specs.Answers.{Answer, done, octet, idle, quiet, packet, held, refused}
 use Rattle.link.specs.Receiver.{ReceiverEnd, Receive, receive}
 use Rattle.tally.specs.Display.{shown}
+use Rattle.tally.specs.Sums.{isCounted}
 use Rattle.lines.specs.Lines.{Page, append, reportLine}
 
 -- ---- lines
@@ -21,9 +22,13 @@ shownOf done first second = []
 shownOf (octet x) first second = []
 shownOf idle first second = []
 
--- the line of a call of the receiver, from the areas as the call left them; Quiet has none
+-- The line of an answer, from the areas. What is not counted has none: Quiet, and a refusal of the call itself (any number outside 5 to 14).
+abbrev pub lineFor : Answer → List ℕ → List ℕ → List ℕ
+lineFor a first second = if isCounted a then reportLine a (shownOf a first second) else []
+
+-- the line of a call of the receiver, from the areas as the call left them
 unfoldable pub lineOf : Receive → List ℕ
-lineOf h = reportLine (h .report) (shownOf (h .report) (h .after .first) (h .after .second))
+lineOf h = lineFor (h .report) (h .after .first) (h .after .second)
 
 unfoldable pub linesOf : List Receive → List ℕ
 linesOf = flatMap lineOf

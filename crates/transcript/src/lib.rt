@@ -4,17 +4,27 @@ ghost use mathlib.Core.Path.{_≡_};
 ghost use Prim.Native.Nat.{min, _/_, _≤_};
 ghost use lib.ListN.{length};
 ghost use Rattle.link.specs.Answers.{reportAnswer};
+ghost use Rattle.link.specs.Receiver.{openedReceiver};
 ghost use Rattle.link.specs.Runs.{received};
 ghost use Rattle.reader.specs.NothingLost.{reports};
-ghost use Rattle.tally.specs.Sums.{noted};
-ghost use Rattle.lines.specs.Lines.{append, reportLine};
-ghost use Rattle.transcript.specs.Transcript.{shownOf, longestLine, print};
+ghost use Rattle.tally.specs.Sums.{noted, isCounted};
+ghost use Rattle.lines.specs.Lines.{append};
+ghost use Rattle.transcript.specs.Transcript.{shownOf, lineFor, longestLine, print};
+ghost use Rattle.transcript.specs.LinesOfReports.{LinesOfReports, RefusedCalls};
+ghost use Rattle.transcript.specs.NothingLeftOut.{NothingLeftOut, AllPrinted, AllCounted};
 use link::receiver::Receiver;
 use link::receiver::Report;
 use tally::Tally;
 
 // The settings that a capture is read with: ZXE and PRE are both on.
-pub const SETTINGS: u8 = 0x03;
+const SETTINGS: u8 = 0x03;
+
+// The receiver that a capture is read with, fresh.
+pub fn opened() -> Receiver
+    ensures { λ r. ⌜ r ≡ openedReceiver 3 ⌝ }
+{
+    link::receiver::open(SETTINGS)
+}
 
 // ---- lines
 
@@ -43,7 +53,24 @@ fn octets<'a>(given: Report, first: &'a [u8], second: &'a [u8]) -> &'a [u8]
     }
 }
 
-// The line for a report, put on the page.
+// Whether an answer is a report: Quiet is none, nor is a refusal of the call itself.
+fn is_report(given: Report) -> bool
+    ensures { λ r. ⌜ r ≡ isCounted (reportAnswer given) ⌝ }
+{
+    match given {
+        Report::Quiet => false,
+        Report::Packet { .. } => true,
+        Report::Held { .. } => true,
+        Report::Refused(n) => {
+            if n < tally::FIRST_REFUSAL {
+                return false;
+            }
+            n <= tally::LAST_REFUSAL
+        }
+    }
+}
+
+// The line for an answer, put on the page, if it is a report.
 fn line<'a>(
     given: Report,
     first: &'a [u8],
@@ -53,8 +80,11 @@ fn line<'a>(
 ) -> usize
     ensures { λ r. ⌜ record { area = now (page .exit); filled = r }
         ≡ append (record { area = now (page .entry); filled = filled })
-        (reportLine (reportAnswer given) (shownOf (reportAnswer given) (now (first .entry)) (now (second .entry)))) ⌝ }
+        (lineFor (reportAnswer given) (now (first .entry)) (now (second .entry))) ⌝ }
 {
+    if !is_report(given) {
+        return filled;
+    }
     lines::report(given, octets(given, first, second), page, filled)
 }
 
@@ -136,3 +166,10 @@ pub fn count(
         counts: sums,
     }
 }
+
+// ---- claims
+
+// What is claimed of this crate: each theorem that docs/DEMANDS.md names.
+pub fn claims()
+    ensures { λ _. ⌜ LinesOfReports × RefusedCalls × NothingLeftOut × AllPrinted × AllCounted ⌝ }
+{}

@@ -1,2 +1,3 @@
--- Steps: writing on, octet by octet.
+-- Steps: writing on, octet by octet. Pieces: a line written in pieces.
 pub mod Steps
+pub mod Pieces

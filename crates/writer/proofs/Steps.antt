@@ -41,7 +41,7 @@ one-more i line x w l =
 -- ---- the loop
 
 -- a sender after a call, with the areas as they were
-abbrev with : Sender → SenderEnd → SenderEnd
+abbrev pub with : Sender → SenderEnd → SenderEnd
 with s e = record { state = s; low = e .low; high = e .high }
 
 pub ends : (e : SenderEnd) (line : List ℕ) (i : ℕ) → length line ≤ i

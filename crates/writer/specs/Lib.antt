@@ -1,2 +1,3 @@
--- What a reader must believe: what write_on does.
+-- What a reader must believe: what write_on does, and what follows for a program that writes its line in pieces.
 pub mod Writing
+pub mod Pieces

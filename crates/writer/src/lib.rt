@@ -7,6 +7,7 @@ ghost use lib.Seq.{paste};
 ghost use Rattle.cobs.specs.CodeBlocks.{toLine};
 ghost use Rattle.link.specs.SenderParts.{SenderReady};
 ghost use Rattle.writer.specs.Writing.{writeOn, onto, fromPlace};
+ghost use Rattle.writer.specs.Pieces.{HoweverCut, WherePiecesEnd, OnTheLine};
 use link::sender::Lane;
 use link::sender::NextAnswer;
 use link::sender::OnLine;
@@ -108,3 +109,8 @@ pub fn write_on(state: Sender, low: &[u8], high: &[u8], line: &mut [u8]) -> Fill
         filled: i,
     }
 }
+
+// What is claimed of this crate: each theorem that docs/DEMANDS.md names.
+pub fn claims()
+    ensures { λ r. ⌜ HoweverCut × WherePiecesEnd × OnTheLine ⌝ }
+{}

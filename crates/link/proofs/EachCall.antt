@@ -1,0 +1,537 @@
+-- What holds of every single call.
+use mathlib.Core.Path.{_≡_, refl, sym, ap, subst, _∙_}
+use mathlib.Core.Bool.{Bool, true, false, cond, not, _&&_, _||_}
+use mathlib.Core.List.{List, [], _∷_, _++_}
+use mathlib.Core.Logic.{_⊎_, inl, inr}
+use Prim.Native.Nat.{ℕ, _+_, _-_, _≤_, _<_}
+use native.Mathlib.Omega.{arith}
+use borrow.Author.Tests.{eqb-true, eqb-false, ltb-true, ltb-false, eq-eqb, ne-eqb, not-true, not-false}
+use lib.Dec.{ltb, eqb}
+use lib.ListN.{length, take, drop, replicate, length-append}
+use lib.Seq.{take-append-seam, drop-append-seam, take-take, drop-drop, take-at, drop-at, length-take-le}
+use Rattle.fcs.specs.CheckSequence.{good}
+use Rattle.cobs.specs.CodeBlocks.{frame, flag, fromLine, meaning}
+use Rattle.cobs.specs.declared.Meaning.{Meaning}
+use Rattle.cobs.specs.declared.Meaning.the-variants.{InTable, NotAgreed, NoCode}
+use Rattle.cobs.proofs.Tests.{branch, decide}
+use Rattle.cobs.proofs.Exchange.{from-line}
+use Rattle.link.specs.Agreed.{Agreed, agreed, leastPacket, leastFrame, largestFrame, mostDecoded}
+use Rattle.link.specs.Answers.{Answer, done, octet, idle, quiet, packet, held, refused}
+use Rattle.link.specs.Sender.{Lane, low, high, OnLine, noLane, Sender, SenderEnd, Out, closes, breaksOff, sends, sendsNothing, refuses, Step, Load, emptyLane, laneState, withLane, laneD, outAnswer, putFrame, load, next}
+use Rattle.link.specs.Receiver.{Fragment, nothingHeld, holds, Receiver, Working, ReceiverEnd, Receive, Ended, outOfFrame, isNoBlock, isD0, isHeld, heldAfter, write, step4Refuse, step3Write, step3Decode, step3Data, step2ByMeaning, step2Code, step1ResumeHeld, step1D1, step1FirstOctet, steps1To4, step5End, step5Hold, step5WithoutPhantom, step5Flag, atFlag, areaOf, work, putBack, flagged, receive}
+use Rattle.link.specs.Receiver as receiver
+use Rattle.link.specs.ReceiverParts.{ReceiverReady}
+use Rattle.link.specs.EachCall.{RefusedChangesNothing, IdleChangesNothing, Loads, DoneLoads, SettingsStay, ClosedIsEmpty, TakesIn, BlockOver, Resumes, HeldThen, NotHeldThen, EndsFrame, ReceivesSo}
+use Rattle.link.proofs.Tests.{if-so, if-not, not-below}
+use Rattle.link.proofs.Way.{Way, ends, cuts, warns, goes, sender, Turn, cut·due, idles, resumes·low, begins·high, begins·low, high·on, low·on, by-next}
+use Rattle.link.proofs.Write.{length-write, take-write}
+use Rattle.link.proofs.ReceiverBounds as heard
+use Rattle.link.proofs.Follow.{work-back, aside-back}
+use Rattle.link.proofs.Resumed.{D1-is}
+use Rattle.link.proofs.SenderBounds as sent
+
+-- ---- the sender
+
+load-refused : (l : Lane) (p : List ℕ) (s : Sender) (area : List ℕ) (n : ℕ) → load l p s area .answer ≡ refused n
+    → (load l p s area .state ≡ s) × (load l p s area .area ≡ area)
+unfolding putFrame
+load-refused l p s area n =
+    sent.by-load (agreed (s .settings)) l p s area (λ t. t .answer ≡ refused n → (t .state ≡ s) × (t .area ≡ area)) refl (λ _ _. (refl, refl))
+    (λ _ q. absurd (let z : _≡_ {A = ℕ} 0 1 = cc in omega arith))
+
+pub done-loads : DoneLoads
+unfolding putFrame
+done-loads l p s area =
+    let g = agreed (s .settings) in
+    let f = frame (g .check) p in
+    sent.by-load g l p s area (λ t. t .answer ≡ done → Loads l p s area f t) refl (λ n q. absurd (let z : _≡_ {A = ℕ} 0 1 = cc in omega arith))
+    (λ k _.
+    record {
+      start = take-append-seam f (drop (length f) area);
+      behind = drop-append-seam f (drop (length f) area);
+      state = refl;
+      lane = k .free;
+      least = k .big;
+      most = k .small;
+    })
+
+-- a step that the sender takes is never refused, and one that is idle changes nothing
+way-octet : {Q : Type 0} (g : Agreed) (l : Lane) (s : Sender) (d : List ℕ) (st : Step) → Way g l s d st → (a : Answer) → ((x : ℕ) → octet x ≡ a → ⊥) → outAnswer (st .out) ≡ a → Q
+way-octet g l s d st (ends over) a f q = absurd (f _ q)
+way-octet g l s d st (cuts short e pre urgent i) a f q = absurd (f _ q)
+way-octet g l s d st (warns short e pre urgent i) a f q = absurd (f _ q)
+way-octet g l s d st (goes x pos n z short v free) a f q = absurd (f _ q)
+
+module _ (g : Agreed) (e : SenderEnd) where
+  abbrev s : Sender
+  s = e .state
+
+  turn-stays : (a : Answer) → ((x : ℕ) → octet x ≡ a → ⊥) → (o : OnLine) (u c : Bool) (st : Step)
+      → Turn g (s .low) (s .high) (s .left) (s .zeros) (s .settings) (e .low) (e .high) o u c st → outAnswer (st .out) ≡ a
+      → st .state ≡ sender (s .low) (s .high) (s .left) (s .zeros) o u c (s .settings)
+  turn-stays a f o u c st cut·due q = absurd (f _ q)
+  turn-stays a f o u c st (idles i j) q = refl
+  turn-stays a f o u c st (resumes·low i j) q = absurd (f _ q)
+  turn-stays a f o u c st (begins·high j w) q = way-octet g high _ _ st w a f q
+  turn-stays a f o u c st (begins·low i j w) q = way-octet g low _ _ st w a f q
+  turn-stays a f o u c st (high·on w) q = way-octet g high _ _ st w a f q
+  turn-stays a f o u c st (low·on w) q = way-octet g low _ _ st w a f q
+
+next-stays : (e : SenderEnd) (a : Answer) → ((x : ℕ) → octet x ≡ a → ⊥) → outAnswer (next e .out) ≡ a → next e .state ≡ e .state
+next-stays e a f =
+    let s = e .state in
+    by-next (agreed (s .settings)) e refl (λ st. outAnswer (st .out) ≡ a → st .state ≡ s) (λ _ _. refl)
+    (λ st t q. turn-stays (agreed (s .settings)) e a f (s .on) (s .suspended) (s .cut) st t q)
+
+-- the settings stay, and a closing flag leaves its lane empty
+way-settings : (g : Agreed) (s : Sender) (d : List ℕ) (l : Lane) (st : Step) → Way g l s d st → st .state .settings ≡ s .settings
+way-settings g s d low st (ends over) = refl
+way-settings g s d high st (ends over) = refl
+way-settings g s d l st (cuts short e pre urgent i) = refl
+way-settings g s d l st (warns short e pre urgent i) = refl
+way-settings g s d low st (goes x pos n z short v free) = refl
+way-settings g s d high st (goes x pos n z short v free) = refl
+
+next-settings : (e : SenderEnd) → next e .state .settings ≡ e .state .settings
+next-settings e = by-next (agreed (e .state .settings)) e refl (λ st. st .state .settings ≡ e .state .settings) (λ _. refl) (turn-settings (e .state .on) (e .state .suspended) (e .state .cut))
+  where
+    turn-settings : (o : OnLine) (u c : Bool) (st : Step)
+        → Turn (agreed (e .state .settings)) (e .state .low) (e .state .high) (e .state .left) (e .state .zeros) (e .state .settings) (e .low) (e .high) o u c st
+        → st .state .settings ≡ e .state .settings
+    turn-settings o u c st cut·due = refl
+    turn-settings o u c st (idles i j) = refl
+    turn-settings o u c st (resumes·low i j) = refl
+    turn-settings o u c st (begins·high j w) = way-settings _ _ _ high st w
+    turn-settings o u c st (begins·low i j w) = way-settings _ _ _ low st w
+    turn-settings o u c st (high·on w) = way-settings _ _ _ high st w
+    turn-settings o u c st (low·on w) = way-settings _ _ _ low st w
+
+load-settings : (l : Lane) (p : List ℕ) (s : Sender) (area : List ℕ) → load l p s area .state .settings ≡ s .settings
+unfolding putFrame
+load-settings low p s area = sent.by-load (agreed (s .settings)) low p s area (λ t. t .state .settings ≡ s .settings) refl (λ _. refl) (λ _. refl)
+load-settings high p s area = sent.by-load (agreed (s .settings)) high p s area (λ t. t .state .settings ≡ s .settings) refl (λ _. refl) (λ _. refl)
+
+-- which lane a step closes
+abbrev Closed : Lane → Step → Type 0
+Closed l st = (laneState l (st .state) ≡ emptyLane) × (st .state .on ≡ noLane)
+
+way-closed : (g : Agreed) (s : Sender) (d : List ℕ) (k : Lane) (st : Step) → Way g k s d st → (l : Lane) → st .out ≡ closes l → Closed l st
+way-closed g s d low st (ends over) low q = (refl, refl)
+way-closed g s d high st (ends over) high q = (refl, refl)
+way-closed g s d low st (ends over) high q = absurd (let z : _≡_ {A = ℕ} 0 1 = cc in omega arith)
+way-closed g s d high st (ends over) low q = absurd (let z : _≡_ {A = ℕ} 0 1 = cc in omega arith)
+way-closed g s d k st (cuts short e pre urgent i) l q = absurd (let z : _≡_ {A = ℕ} 0 1 = cc in omega arith)
+way-closed g s d k st (warns short e pre urgent i) l q = absurd (let z : _≡_ {A = ℕ} 0 1 = cc in omega arith)
+way-closed g s d k st (goes x pos n z short v free) l q = absurd (let i : _≡_ {A = ℕ} 0 1 = cc in omega arith)
+
+pub closed-is-empty : ClosedIsEmpty
+closed-is-empty e l =
+    by-next (agreed (e .state .settings)) e refl (λ st. st .out ≡ closes l → Closed l st) (λ n q. absurd (let z : _≡_ {A = ℕ} 0 1 = cc in omega arith))
+    (turn-closed (e .state .on) (e .state .suspended) (e .state .cut))
+  where
+    turn-closed : (o : OnLine) (u c : Bool) (st : Step)
+        → Turn (agreed (e .state .settings)) (e .state .low) (e .state .high) (e .state .left) (e .state .zeros) (e .state .settings) (e .low) (e .high) o u c st
+        → st .out ≡ closes l → Closed l st
+    turn-closed o u c st cut·due q = absurd (let z : _≡_ {A = ℕ} 0 1 = cc in omega arith)
+    turn-closed o u c st (idles i j) q = absurd (let z : _≡_ {A = ℕ} 0 1 = cc in omega arith)
+    turn-closed o u c st (resumes·low i j) q = absurd (let z : _≡_ {A = ℕ} 0 1 = cc in omega arith)
+    turn-closed o u c st (begins·high j w) q = way-closed _ _ _ high st w l q
+    turn-closed o u c st (begins·low i j w) q = way-closed _ _ _ low st w l q
+    turn-closed o u c st (high·on w) q = way-closed _ _ _ high st w l q
+    turn-closed o u c st (low·on w) q = way-closed _ _ _ low st w l q
+
+pub idle-changes-nothing : IdleChangesNothing
+idle-changes-nothing e = next-stays e idle (λ x q. let z : _≡_ {A = ℕ} 0 1 = cc in omega arith)
+
+next-refused : (e : SenderEnd) (n : ℕ) → outAnswer (next e .out) ≡ refused n → next e .state ≡ e .state
+next-refused e n = next-stays e (refused n) (λ x q. let z : _≡_ {A = ℕ} 0 1 = cc in omega arith)
+
+-- ---- the receiver
+
+ready-of : (e : ReceiverEnd) → ReceiverReady e → heard.Ready (agreed (e .state .settings)) e
+ready-of e r = record { agrees = refl; bounds = heard.bounds (agreed (e .state .settings)) (e .state) (r .0); first = r .1; second = r .2 }
+
+receive-refused : (e : ReceiverEnd) (x n : ℕ) → n < 5 → receive e x .report ≡ refused n → receive e x .after ≡ e
+unfolding receive
+receive-refused e x n h =
+    let g = agreed (e .state .settings) in
+    let P : Receive → Type 0 = λ r. r .report ≡ refused n → r .after ≡ e in
+    branch P (ltb (length (e .first)) (mostDecoded g) || ltb (length (e .second)) (mostDecoded g)) (λ _ _. refl)
+    (λ k. branch P (not (receiver.inBounds g (e .state))) (λ _ _. refl)
+    (λ i.
+    let long = not-below (length (e .first)) (mostDecoded g) (length (e .second)) (mostDecoded g) k in
+    let z = ready-of e (not-false (receiver.inBounds g (e .state)) i, long .0, long .1) in
+    branch P (eqb x flag)
+    (λ _ q.
+    let five : heard.OfFrame (refused n) = subst heard.OfFrame (ap (λ (r : Receive). r .report) (heard.receive-flag g e z) ∙ q) (heard.flag-ends g e z .tells) in
+    absurd (omega arith))
+    (λ _ q. absurd (let j : _≡_ {A = ℕ} 0 1 = cc in omega arith))))
+
+pub refused-changes-nothing : RefusedChangesNothing
+refused-changes-nothing = record { load = load-refused; next = next-refused; receive = receive-refused }
+
+-- ---- the work area taken and put back
+
+same-first : (b : Bool) (first second : List ℕ) → cond b first (cond b second first) ≡ first
+same-first true first second = refl
+same-first false first second = refl
+
+same-second : (b : Bool) (first second : List ℕ) → cond b (cond b second first) second ≡ second
+same-second true first second = refl
+same-second false first second = refl
+
+put-back-same : (e : ReceiverEnd) → putBack e (work e) ≡ e
+put-back-same e = rw (same-first (e .state .turn) (e .first) (e .second), same-second (e .state .turn) (e .first) (e .second))
+
+-- ---- an octet is written only after those that are decoded
+
+record Moves (w w′ : Working) : Type 0 where
+  turn·is : w′ .state .turn ≡ w .state .turn
+  held·is : w′ .state .held ≡ w .state .held
+  count : w .state .decoded ≤ w′ .state .decoded
+  same : take (w .state .decoded) (w′ .area) ≡ take (w .state .decoded) (w .area)
+  behind : drop (w′ .state .decoded) (w′ .area) ≡ drop (w′ .state .decoded) (w .area)
+
+-- nothing is written, and no more is decoded
+stays : (w : Working) (r : Receiver) → r .turn ≡ w .state .turn → r .held ≡ w .state .held → r .decoded ≡ w .state .decoded
+    → Moves w (record { state = r; area = w .area })
+stays w r h k i = record { turn·is = h; held·is = k; count = omega arith; same = refl; behind = refl }
+
+unwritten : (n : ℕ) (w : Working) → Moves w (step4Refuse n w)
+unwritten n w = stays w _ refl refl refl
+
+writes-on : (xs : List ℕ) (w : Working) → w .state .decoded + length xs ≤ length (w .area) → Moves w (step3Write xs w)
+writes-on xs w fits =
+    let n = w .state .decoded in
+    let a = w .area in
+    let size : length (take n a) ≡ n = length-take-le n a (omega arith) in
+    record {
+      turn·is = refl;
+      held·is = refl;
+      count = omega arith;
+      same = sym (take-take n (n + length xs) (write a n xs) (omega arith)) ∙ (ap (take n) (take-write a n xs fits) ∙ take-at (take n a) xs n size);
+      behind = drop-at (take n a ++ xs) (drop (n + length xs) a) (n + length xs) (length-append (take n a) xs ∙ ap (λ (k : ℕ). k + length xs) size);
+    }
+
+then : (w v u : Working) → Moves w v → Moves v u → Moves w u
+then w v u h k =
+    let i = w .state .decoded in
+    let j = v .state .decoded in
+    let m = u .state .decoded in
+    let at : j + (m - j) ≡ m = omega (arith, k .count) in
+    let past : (l : List ℕ) → drop (m - j) (drop j l) ≡ drop m l = (λ l. drop-drop (m - j) j l ∙ ap (λ (n : ℕ). drop n l) at) in
+    record {
+      turn·is = k .turn·is ∙ h .turn·is;
+      held·is = k .held·is ∙ h .held·is;
+      count = omega (arith, h .count, k .count);
+      same = sym (take-take i j (u .area) (h .count)) ∙ (ap (take i) (k .same) ∙ (take-take i j (v .area) (h .count) ∙ h .same));
+      behind = k .behind ∙ (sym (past (v .area)) ∙ (ap (drop (m - j)) (h .behind) ∙ past (w .area)));
+    }
+
+module _ (g : Agreed) where
+  decodes : (xs : List ℕ) (w : Working) → mostDecoded g ≤ length (w .area) → Moves w (step3Decode g xs w)
+  unfolding step3Decode
+  decodes xs w long =
+      branch (Moves w) (ltb (mostDecoded g) (w .state .decoded + length xs)) (λ _. unwritten 10 w)
+      (λ k. writes-on xs w (omega (arith, ltb-false (mostDecoded g) (w .state .decoded + length xs) k)))
+
+  module _ (w : Working) (long : mostDecoded g ≤ length (w .area)) where
+    after : (r : Receiver) (u : Working) → r .turn ≡ w .state .turn → r .held ≡ w .state .held → r .decoded ≡ w .state .decoded
+        → Moves (record { state = r; area = w .area }) u → Moves w u
+    after r u h k i m = then w (record { state = r; area = w .area }) u (stays w r h k i) m
+
+    data-moves : (x : ℕ) → Moves w (step3Data g w x)
+    unfolding step3Data
+    data-moves x =
+        let r = w .state in
+        branch (Moves w) (ltb (mostDecoded g) (r .decoded + 1)) (λ _. unwritten 10 w)
+        (λ k.
+        let fits : r .decoded + 1 ≤ length (w .area) = omega (arith, ltb-false (mostDecoded g) (r .decoded + 1) k) in
+        branch (Moves w) (eqb (r .left) 1)
+        (λ _.
+        let v : Working = record { state = receiver.withDue 0 0 r; area = w .area } in
+        let u : Working = step3Write (x ∷ []) v in
+        after (receiver.withDue 0 0 r) _ refl refl refl
+        (then v u (step3Decode g (replicate (r .zeros) 0) u) (writes-on (x ∷ []) v fits)
+        (decodes (replicate (r .zeros) 0) u (omega (arith, length-write (w .area) (r .decoded) (x ∷ []) fits)))))
+        (λ _.
+        after (receiver.withDue (r .left - 1) (r .zeros) r) _ refl refl refl
+        (writes-on (x ∷ []) (record { state = receiver.withDue (r .left - 1) (r .zeros) r; area = w .area }) fits)))
+
+    code-moves : (c : ℕ) (m : Meaning) → Moves w (step2ByMeaning g w c m)
+    unfolding step2ByMeaning
+    code-moves c (InTable n z) =
+        let r = receiver.step2BeginBlock (receiver.lastBlock c) 0 0 (w .state) in
+        branch (Moves w) (eqb n 0) (λ _. after r _ refl refl refl (decodes (replicate z 0) (record { state = r; area = w .area }) long))
+        (λ _. stays w _ refl refl refl)
+    code-moves c NotAgreed = unwritten 6 w
+    code-moves c NoCode = unwritten 7 w
+
+    -- D1 that resumes nothing
+    D1-moves : (g .pre ≡ true → w .state .held ≡ nothingHeld) → Moves w (record { state = step1D1 g (w .state); area = w .area })
+    unfolding step1D1 step1ResumeHeld
+    D1-moves none·held =
+        branch (λ (r : Receiver). Moves w (record { state = r; area = w .area })) (g .pre)
+        (λ pre. subst (λ (k : Fragment). Moves w (record { state = step1ResumeHeld k (w .state); area = w .area })) (sym (none·held pre)) (stays w _ refl refl refl))
+        (λ _. stays w _ refl refl refl)
+
+    octet-moves : (x : ℕ) → (w .state .framed ≡ false → x ≡ 0xD1 → g .pre ≡ true → w .state .held ≡ nothingHeld) → Moves w (steps1To4 g w x)
+    unfolding steps1To4 step1FirstOctet step2Code
+    octet-moves x h =
+        branch (Moves w) (not (eqb (w .state .refusal) 0)) (λ _. stays w (w .state) refl refl refl)
+        (λ _. branch (Moves w) (not (w .state .framed))
+        (λ out. branch (Moves w) (eqb x 0xFF) (λ _. unwritten 5 w)
+        (λ _. branch (Moves w) (eqb x 0xD1) (λ d. D1-moves (h (not-true (w .state .framed) out) (eqb-true x 0xD1 d))) (λ _. code-moves x (meaning (g .zxe) x))))
+        (λ _. branch (Moves w) (ltb 0 (w .state .left)) (λ _. data-moves x) (λ _. code-moves x (meaning (g .zxe) x))))
+
+-- ---- whether the frame is a resumed one
+
+module _ (g : Agreed) (w : Working) where
+  abbrev m : Bool
+  m = w .state .resumed
+
+  abbrev Same : Working → Type 0
+  Same v = v .state .resumed ≡ m
+
+  decode-same : (xs : List ℕ) (v : Working) → Same v → Same (step3Decode g xs v)
+  unfolding step3Decode
+  decode-same xs v e = branch Same (ltb (mostDecoded g) (v .state .decoded + length xs)) (λ _. e) (λ _. e)
+
+  data-same : (x : ℕ) → Same (step3Data g w x)
+  unfolding step3Data
+  data-same x =
+      branch Same (ltb (mostDecoded g) (w .state .decoded + 1)) (λ _. refl)
+      (λ _. branch Same (eqb (w .state .left) 1) (λ _. decode-same (replicate (w .state .zeros) 0) _ refl) (λ _. refl))
+
+  code-same : (c : ℕ) (k : Meaning) → Same (step2ByMeaning g w c k)
+  unfolding step2ByMeaning
+  code-same c (InTable n z) = branch Same (eqb n 0) (λ _. decode-same (replicate z 0) _ refl) (λ _. refl)
+  code-same c NotAgreed = refl
+  code-same c NoCode = refl
+
+  D1-marks : (k : Fragment) → step1ResumeHeld k (w .state) .resumed ≡ true
+  unfolding step1ResumeHeld
+  D1-marks nothingHeld = refl
+  D1-marks (holds n) = refl
+
+  -- a first octet, where the mark is not set
+  first-marks : (x : ℕ) → m ≡ false → step1FirstOctet g w x .state .resumed ≡ eqb x 0xD1
+  unfolding step1FirstOctet step1D1 step2Code
+  first-marks x none =
+      branch (λ (v : Working). v .state .resumed ≡ eqb x 0xD1) (eqb x 0xFF)
+      (λ e. none ∙ sym (ne-eqb x 0xD1 (λ q. omega (arith, eqb-true x 0xFF e))))
+      (λ _. branch (λ (v : Working). v .state .resumed ≡ eqb x 0xD1) (eqb x 0xD1)
+      (λ e. branch (λ (r : Receiver). r .resumed ≡ eqb x 0xD1) (g .pre) (λ _. D1-marks (w .state .held) ∙ sym e) (λ _. sym e))
+      (λ e. code-same x (meaning (g .zxe) x) ∙ (none ∙ sym e)))
+
+  marks : (x : ℕ) → heard.Bounds g (w .state) → steps1To4 g w x .state .resumed ≡ cond (w .state .framed) m (eqb x 0xD1)
+  unfolding steps1To4 step2Code
+  marks x b =
+      let P : Working → Type 0 = λ v. v .state .resumed ≡ cond (w .state .framed) m (eqb x 0xD1) in
+      branch P (not (eqb (w .state .refusal) 0))
+      (λ some.
+      decide (w .state .framed) (λ f. sym (if-so _ _ _ f))
+      (λ f. absurd (eqb-false (w .state .refusal) 0 (not-true (eqb (w .state .refusal) 0) some) (b .out f .refusal·0))))
+      (λ _. branch P (not (w .state .framed))
+      (λ out.
+      let off : w .state .framed ≡ false = not-true (w .state .framed) out in
+      first-marks x (b .out off .resumed·0) ∙ sym (if-not _ _ _ off))
+      (λ inside.
+      let on : w .state .framed ≡ true = not-false (w .state .framed) inside in
+      branch P (ltb 0 (w .state .left)) (λ _. data-same x ∙ sym (if-so _ _ _ on)) (λ _. code-same x (meaning (g .zxe) x) ∙ sym (if-so _ _ _ on))))
+
+-- ---- a refusal that is remembered, and the settings
+
+record Remembers (w v : Working) : Type 0 where
+  over : (v .state .refusal ≡ 0 → ⊥) → BlockOver (v .state)
+  settings·is : v .state .settings ≡ w .state .settings
+
+module _ (g : Agreed) (w : Working) where
+  refused-so : (n : ℕ) (v : Working) → v .state .settings ≡ w .state .settings → Remembers w (step4Refuse n v)
+  refused-so n v e = record { over = λ _. record { left = refl; zeros = refl; last = refl }; settings·is = e }
+
+  clean-so : (v : Working) → v .state .refusal ≡ 0 → v .state .settings ≡ w .state .settings → Remembers w v
+  clean-so v c e = record { over = λ f. absurd (f c); settings·is = e }
+
+  decode-so : (xs : List ℕ) (v : Working) → v .state .refusal ≡ 0 → v .state .settings ≡ w .state .settings → Remembers w (step3Decode g xs v)
+  unfolding step3Decode
+  decode-so xs v c e = branch (Remembers w) (ltb (mostDecoded g) (v .state .decoded + length xs)) (λ _. refused-so 10 v e) (λ _. clean-so (step3Write xs v) c e)
+
+  module _ (c : w .state .refusal ≡ 0) where
+    data-so : (x : ℕ) → Remembers w (step3Data g w x)
+    unfolding step3Data
+    data-so x =
+        branch (Remembers w) (ltb (mostDecoded g) (w .state .decoded + 1)) (λ _. refused-so 10 w refl)
+        (λ _. branch (Remembers w) (eqb (w .state .left) 1) (λ _. decode-so (replicate (w .state .zeros) 0) _ c refl) (λ _. clean-so _ c refl))
+
+    code-so : (x : ℕ) (k : Meaning) → Remembers w (step2ByMeaning g w x k)
+    unfolding step2ByMeaning
+    code-so x (InTable n z) = branch (Remembers w) (eqb n 0) (λ _. decode-so (replicate z 0) _ c refl) (λ _. clean-so _ c refl)
+    code-so x NotAgreed = refused-so 6 w refl
+    code-so x NoCode = refused-so 7 w refl
+
+    D1-so : (k : Fragment) → Remembers w (record { state = step1ResumeHeld k (w .state); area = w .area })
+    unfolding step1ResumeHeld
+    D1-so nothingHeld = record { over = λ _. record { left = refl; zeros = refl; last = refl }; settings·is = refl }
+    D1-so (holds n) = clean-so _ refl refl
+
+    octet-so : (x : ℕ) → Remembers w (steps1To4 g w x)
+    unfolding steps1To4 step1FirstOctet step1D1 step2Code
+    octet-so x =
+        branch (Remembers w) (not (eqb (w .state .refusal) 0)) (λ k. absurd (eqb-false (w .state .refusal) 0 (not-true (eqb (w .state .refusal) 0) k) c))
+        (λ _. branch (Remembers w) (not (w .state .framed))
+        (λ _. branch (Remembers w) (eqb x 0xFF) (λ _. refused-so 5 w refl)
+        (λ _. branch (Remembers w) (eqb x 0xD1)
+        (λ _. branch (λ (r : Receiver). Remembers w (record { state = r; area = w .area })) (g .pre) (λ _. D1-so (w .state .held))
+        (λ _. record { over = λ _. record { left = refl; zeros = refl; last = refl }; settings·is = refl }))
+        (λ _. code-so x (meaning (g .zxe) x))))
+        (λ _. branch (Remembers w) (ltb 0 (w .state .left)) (λ _. data-so x) (λ _. code-so x (meaning (g .zxe) x))))
+
+  octet-settings : (x : ℕ) → steps1To4 g w x .state .settings ≡ w .state .settings
+  unfolding steps1To4
+  octet-settings x =
+      decide (eqb (w .state .refusal) 0) (λ c. octet-so (eqb-true (w .state .refusal) 0 c) x .settings·is)
+      (λ c. ap (λ (v : Working). v .state .settings) (if-so _ _ _ (ap not c)))
+
+flag-settings : (g : Agreed) (r : Receiver) (area : List ℕ) → atFlag g r area .state .settings ≡ r .settings
+unfolding atFlag step5Flag step5WithoutPhantom
+flag-settings g r area =
+    let P : Ended → Type 0 = λ t. t .state .settings ≡ r .settings in
+    branch P (r .framed)
+    (λ _. branch P (not (eqb (r .refusal) 0)) (λ _. refl)
+    (λ _. branch P (isNoBlock (r .last)) (λ _. refl)
+    (λ _. branch P (ltb 0 (r .left)) (λ _. branch P (g .pre) (λ _. refl) (λ _. refl))
+    (λ _. branch P (isD0 (r .last)) (λ _. refl)
+    (λ _. branch P (ltb (r .decoded - 1) (leastFrame g)) (λ _. refl)
+    (λ _. branch P (good (g .check) (take (r .decoded - 1) area)) (λ _. refl) (λ _. refl)))))))
+    (λ _. refl)
+
+receive-settings : (e : ReceiverEnd) (x : ℕ) → receive e x .after .state .settings ≡ e .state .settings
+unfolding receive
+receive-settings e x =
+    let g = agreed (e .state .settings) in
+    let P : Receive → Type 0 = λ h. h .after .state .settings ≡ e .state .settings in
+    branch P (ltb (length (e .first)) (mostDecoded g) || ltb (length (e .second)) (mostDecoded g)) (λ _. refl)
+    (λ _. branch P (not (receiver.inBounds g (e .state))) (λ _. refl)
+    (λ _. branch P (eqb x flag) (λ _. flag-settings g (e .state) (work e .area)) (λ _. octet-settings g (work e) (fromLine x))))
+
+pub settings-stay : SettingsStay
+settings-stay =
+    record { openedSender = λ t. refl; openedReceiver = λ t. refl; load = load-settings; next = next-settings; receive = receive-settings }
+
+-- the work area put back
+put-back-writes : (e : ReceiverEnd) (w : Working) → Moves (work e) w → TakesIn e (putBack e w)
+put-back-writes e w m =
+    let b = e .state .turn in
+    record {
+      turn = m .turn·is;
+      held = m .held·is;
+      other = aside-back b (e .first) (e .second) (w .area);
+      count = m .count;
+      decoded = ap (take (e .state .decoded)) (work-back b (e .first) (e .second) (w .area)) ∙ m .same;
+      behind = ap (drop (w .state .decoded)) (work-back b (e .first) (e .second) (w .area)) ∙ m .behind;
+    }
+
+-- ---- a flag
+
+module _ (g : Agreed) (e : ReceiverEnd) where
+  abbrev Ends : Ended → Type 0
+  Ends t = HeldThen (e .state) (flagged e t) ⊎ NotHeldThen (e .state) (flagged e t)
+
+  ends-refused : (n : ℕ) → Ends (step5End (refused n) (e .state))
+  ends-refused n =
+      inr
+      (record {
+        fragment = heldAfter (e .state);
+        state = refl;
+        resumed = λ k. if-so _ _ _ k;
+        other = λ k. if-not _ _ _ k;
+        noHeld = λ m b q. let z : _≡_ {A = ℕ} 0 1 = cc in omega arith;
+        noQuiet = λ q. let z : _≡_ {A = ℕ} 0 1 = cc in omega arith;
+      })
+
+  ends-packet : (b : Bool) (n : ℕ) → Ends (step5End (packet b n) (e .state))
+  ends-packet b n =
+      inr
+      (record {
+        fragment = heldAfter (e .state);
+        state = refl;
+        resumed = λ k. if-so _ _ _ k;
+        other = λ k. if-not _ _ _ k;
+        noHeld = λ m c q. let z : _≡_ {A = ℕ} 0 1 = cc in omega arith;
+        noQuiet = λ q. let z : _≡_ {A = ℕ} 0 1 = cc in omega arith;
+      })
+
+  whole-reports : (area : List ℕ) (n : ℕ) → Ends (step5WithoutPhantom g (e .state) area n)
+  unfolding step5WithoutPhantom
+  whole-reports area n =
+      branch Ends (ltb n (leastFrame g)) (λ _. ends-refused 13)
+      (λ _. branch Ends (good (g .check) (take n area)) (λ _. ends-packet (e .state .turn) (n - g .check .fcsLength)) (λ _. ends-refused 14))
+
+  flag-reports : (area : List ℕ) → Ends (step5Flag g (e .state) area)
+  unfolding step5Flag
+  flag-reports area =
+      branch Ends (not (eqb (e .state .refusal) 0)) (λ _. ends-refused (e .state .refusal))
+      (λ _. branch Ends (isNoBlock (e .state .last)) (λ _. ends-refused 9)
+      (λ _. branch Ends (ltb 0 (e .state .left)) (λ _. branch Ends (g .pre) (λ _. inl (refl, refl)) (λ _. ends-refused 11))
+      (λ _. branch Ends (isD0 (e .state .last)) (λ _. ends-refused 12) (λ _. whole-reports area (e .state .decoded - 1)))))
+
+  module _ (z : heard.Ready g e) where
+    flag-of-frame : e .state .framed ≡ true → EndsFrame e (receive e flag)
+    unfolding atFlag
+    flag-of-frame f =
+        rw (heard.receive-flag g e z ∙ ap (flagged e) (if-so _ _ _ f)) (record { first = refl; second = refl; report = flag-reports (work e .area) })
+
+    flag-of-none : e .state .framed ≡ false → receive e flag ≡ record { report = quiet; after = e }
+    unfolding atFlag
+    flag-of-none f = heard.receive-flag g e z ∙ ap (flagged e) (if-not _ _ _ f)
+
+    -- ---- an octet that is no flag
+
+    skips : (x : ℕ) → (x ≡ flag → ⊥) → (e .state .refusal ≡ 0 → ⊥) → receive e x .after ≡ e
+    unfolding steps1To4
+    skips x f some =
+        ap (λ (r : Receive). r .after) (heard.receive-other g e z x f)
+        ∙ (ap (putBack e) (if-so _ _ _ (ap not (ne-eqb (e .state .refusal) 0 some))) ∙ put-back-same e)
+
+    resumed-by-D1 : e .state .framed ≡ false → g .pre ≡ true → (n : ℕ) → e .state .held ≡ holds n → Resumes n e (receive e 0xD1 .after)
+    unfolding step1D1 step1ResumeHeld
+    resumed-by-D1 out pre n h =
+        let is : receive e 0xD1 .after ≡ putBack e (record { state = step1ResumeHeld (holds n) (e .state); area = work e .area }) =
+        ap (λ (r : Receive). r .after) (heard.receive-other g e z 0xD1 (λ q. omega arith))
+        ∙ ap (putBack e)
+        (ap (steps1To4 g (work e)) (from-line 0xD1 (λ q. omega arith))
+        ∙ (D1-is g e z out
+        ∙ ap (λ (s : Receiver). record { state = s; area = work e .area }) (if-so _ _ _ pre ∙ ap (λ (k : Fragment). step1ResumeHeld k (e .state)) h))) in
+        rw is
+        (record {
+          turn = refl;
+          held = refl;
+          decoded = refl;
+          first = same-first (e .state .turn) (e .first) (e .second);
+          second = same-second (e .state .turn) (e .first) (e .second);
+        })
+
+    octet-writes : (x : ℕ) → (x ≡ flag → ⊥) → (e .state .framed ≡ false → fromLine x ≡ 0xD1 → g .pre ≡ true → e .state .held ≡ nothingHeld)
+        → TakesIn e (receive e x .after)
+    octet-writes x f h =
+        rw (heard.receive-other g e z x f) (put-back-writes e _ (octet-moves g (work e) (heard.fit-work g e z .long) (fromLine x) h))
+
+    octet-remembers : e .state .refusal ≡ 0 → (x : ℕ) → (x ≡ flag → ⊥) → (receive e x .after .state .refusal ≡ 0 → ⊥) → BlockOver (receive e x .after .state)
+    octet-remembers c x f = rw (heard.receive-other g e z x f) (octet-so g (work e) c (fromLine x) .over)
+
+    octet-marks : (x : ℕ) → (x ≡ flag → ⊥) → receive e x .after .state .resumed ≡ cond (e .state .framed) (e .state .resumed) (eqb (fromLine x) 0xD1)
+    octet-marks x f = ap (λ (h : Receive). h .after .state .resumed) (heard.receive-other g e z x f) ∙ marks g (work e) (fromLine x) (z .bounds)
+
+pub receives-so : ReceivesSo
+receives-so =
+    record {
+      others = λ e r x f. heard.other-passes (agreed (e .state .settings)) e x f (ready-of e r) .silent;
+      empty = λ e r f. flag-of-none (agreed (e .state .settings)) e (ready-of e r) f;
+      frame = λ e r f. flag-of-frame (agreed (e .state .settings)) e (ready-of e r) f;
+      skipped = λ e r some x f. skips (agreed (e .state .settings)) e (ready-of e r) x f some;
+      remembered = λ e r c x f k. octet-remembers (agreed (e .state .settings)) e (ready-of e r) c x f k;
+      mark = λ e r x f. octet-marks (agreed (e .state .settings)) e (ready-of e r) x f;
+      resumes = λ e r out pre n h. resumed-by-D1 (agreed (e .state .settings)) e (ready-of e r) out pre n h;
+      takesIn = λ e r x f h. octet-writes (agreed (e .state .settings)) e (ready-of e r) x f h;
+    }

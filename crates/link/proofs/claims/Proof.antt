@@ -1,0 +1,29 @@
+-- `link::claims`: the theorems.
+use Rattle.link.proofs.EachCall.{refused-changes-nothing, idle-changes-nothing, settings-stay, closed-is-empty, done-loads, receives-so}
+use Rattle.link.proofs.Within.{within}
+use Rattle.link.proofs.InBounds.{keep-bounds, never-out-of-bounds}
+use Rattle.link.proofs.Demands.{sound-line, demand3}
+use Rattle.link.proofs.AnyBlocks.{any-blocks}
+use Rattle.link.proofs.Progress.{idle-if-empty, emptied}
+use Rattle.link.proofs.Urgent.{urgent-first}
+use Rattle.link.proofs.Delivery.{nothing-lost, delivery}
+use Rattle.link.proofs.AreasAside.{areas-aside}
+use Rattle.link.proofs.Marked.{marked, at-work}
+use Rattle.link.proofs.Examples.{other-bits, limits, packet-lengths, each-example}
+use Rattle.link.proofs.claims.Statement.{statement}
+use Rattle.link.proofs.claims.Tie as tie
+
+returns : tie.Need-returns
+returns c = (
+  (refused-changes-nothing, idle-changes-nothing, settings-stay, closed-is-empty, done-loads, within, receives-so),
+  (
+    (keep-bounds, never-out-of-bounds),
+    (
+      (idle-if-empty, emptied, urgent-first),
+      ((λ t. (sound-line t, nothing-lost t, delivery t)), ((any-blocks, demand3), (areas-aside, ((marked, at-work), (other-bits, limits, packet-lengths, each-example))))),
+    ),
+  ),
+)
+
+pub claims-spec : {M : Type 1} → statement M
+claims-spec = tie.close (tie.spec returns)

@@ -1,0 +1,77 @@
+-- What follows of the sender's calls by themselves (docs/DEMANDS.md): it is never idle with work to do, both lanes get empty in time, and
+-- urgent packets go first.
+use mathlib.Core.Bool.{Bool, true, false, _&&_, _||_}
+use mathlib.Core.List.{List, [], _∷_, List·Memᴰ}
+use mathlib.Core.Logic.{_⊎_}
+use mathlib.Core.Path.{_≡_}
+use Prim.Native.Nat.{ℕ, _+_, _/_, _≤_}
+use lib.Dec.{ltb, eqb}
+use lib.ListN.{replicate}
+use Rattle.fcs.specs.Notation.{if_then_else_}
+use Rattle.link.specs.Agreed.{agreed}
+use Rattle.link.specs.Answers.{done, idle}
+use Rattle.link.specs.Sender.{low, high, noLane, sending, Sender, SenderEnd, Out, closes, breaksOff, sends, sendsNothing, refuses, outAnswer, loaded, load, next}
+use Rattle.link.specs.SenderParts.{SenderReady}
+use Rattle.link.specs.Runs.{SenderCall, nextOctet, Station, freshStation, afterLoad, run, Written, written, isOf, sentBy}
+
+-- ---- never idle with work to do
+
+pub record BothEmpty (s : Sender) : Type 0 where
+  pub low : s .low .length ≡ 0
+  pub high : s .high .length ≡ 0
+
+-- of any state in bounds, with areas long enough: next octet answers Idle exactly if both lanes are empty
+pub record IdleIfEmpty : Type 0 where
+  pub only : (e : SenderEnd) → SenderReady e → outAnswer (next e .out) ≡ idle → BothEmpty (e .state)
+  pub always : (e : SenderEnd) → SenderReady e → BothEmpty (e .state) → outAnswer (next e .out) ≡ idle
+
+-- ---- both lanes get empty
+
+-- so many calls of next octet, at the most, for a frame of n octets: D with its codes, and the closing flag
+abbrev pub callsFor : ℕ → ℕ
+callsFor n = if eqb n 0 then 0 else n + 1 + n / 207 + 1
+
+-- for both lanes; and where low is broken off, or may be, three more: 02, the flag and D1
+abbrev pub callsToEmpty : Sender → ℕ
+callsToEmpty s =
+    callsFor (s .high .length) + callsFor (s .low .length) + (if loaded (s .low) && (loaded (s .high) || s .suspended || s .cut) then 3 else 0)
+
+-- from any state in bounds, with areas long enough
+abbrev pub Emptied : Type 0
+Emptied = (w : Station) → SenderReady (w .end) → (n : ℕ) → callsToEmpty (w .end .state) ≤ n → BothEmpty (run w (replicate n nextOctet) .end .state)
+
+-- ---- urgent goes first
+
+-- after a break-off (b) there is no octet but the high lane's, until D1
+abbrev pub brokenOffAfter : Bool → Out → Bool
+brokenOffAfter b (closes l) = b
+brokenOffAfter b breaksOff = true
+brokenOffAfter b (sends low x) = false
+brokenOffAfter b (sends high x) = b
+brokenOffAfter b sendsNothing = b
+brokenOffAfter b (refuses n) = b
+
+abbrev pub OnlyHighUntilD1 : Bool → List Written → Type 0
+OnlyHighUntilD1 b [] = Unit {0}
+OnlyHighUntilD1 b (e ∷ es) =
+    (b ≡ true → (isOf high (e .out) ≡ true) ⊎ (e .out ≡ sends low 0xD1)) × OnlyHighUntilD1 (brokenOffAfter b (e .out)) es
+
+--   free: with no lane on the line and the high lane loaded, the next octet is the high lane's
+--   atOnce: with PRE, low on the line and not all of its D covered, a loaded high lane breaks it off at once: by the flag if data is left in its
+--   block, else by 02
+--   soon: with PRE, of three calls of next octet behind a high load that is Done one answers an octet of that packet, so that at most two
+--   octets come before its first
+--   whole: without PRE no packet is ever broken off
+--   until: from a break-off until D1 only octets of the high lane are written
+pub record UrgentFirst : Type 0 where
+  pub free : (e : SenderEnd) → SenderReady e → e .state .on ≡ noLane → loaded (e .state .high) ≡ true → isOf high (next e .out) ≡ true
+  pub atOnce : (e : SenderEnd) → SenderReady e → agreed (e .state .settings) .pre ≡ true → e .state .on ≡ sending low → e .state .cut ≡ false
+      → loaded (e .state .high) ≡ true → e .state .low .position ≤ e .state .low .length
+      → next e .out ≡ (if ltb 0 (e .state .left) then breaksOff else sends low 0x02)
+  pub soon : (w : Station) → SenderReady (w .end) → agreed (w .end .state .settings) .pre ≡ true → (p : List ℕ)
+      → load high p (w .end .state) (w .end .high) .answer ≡ done
+      → List·Memᴰ true (sentBy high (written (afterLoad high p w) (replicate 3 nextOctet)))
+  pub whole : (settings : ℕ) (lowArea highArea : List ℕ) (calls : List SenderCall) → agreed settings .pre ≡ false → (e : Written)
+      → List·Memᴰ e (written (freshStation settings lowArea highArea) calls) → e .out ≡ breaksOff → ⊥
+  pub until : (settings : ℕ) (lowArea highArea : List ℕ) (calls : List SenderCall)
+      → OnlyHighUntilD1 false (written (freshStation settings lowArea highArea) calls)
