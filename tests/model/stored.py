@@ -185,6 +185,16 @@ def check_of_zeros(programs):
     return sent_by_model(programs, b"".join(parts))
 
 
+def every_length(programs):
+    """Packets of 2 to 80 octets and of 2,048, in the first area and then, behind a fragment that stays held, in the second."""
+    rng = random.Random(10)
+    parts = [b"o\x03"]
+    for whole in [packet(rng, n) for n in range(2, 81)] + [b"A" * 2048]:
+        parts.append(load_low(whole) + next_octets(2 * len(whole) + 9))
+    line = sent_by_model(programs, b"".join(parts))
+    return line + hx("05 31 7E") + line
+
+
 def unclosed(programs):
     return short_line(programs, random.Random(8), 4) + hx("0C 31 32 33 7E 0C 31 32 33 34 35 36")
 
@@ -206,6 +216,7 @@ CAPTURES = {
     "stale-fragment": stale_fragment,
     "edges": edges,
     "check-of-zeros": check_of_zeros,
+    "every-length": every_length,
     "unclosed": unclosed,
     "empty": empty,
     "all-octets": all_octets,
@@ -588,6 +599,9 @@ def receivers():
     yield ("handed in: resumed without PRE, inside a block",
            receiver(settings=0, decoded=3, held=4, left=2, resumed=1, **IN_OTHER)
            + receive(FLAG) + D, "R 11")
+    whole = (b"\xd0" + b"A" * 207) * 9 + b"\xbc" + b"A" * 185 + fcs(b"A" * 2048) + FLAG
+    yield ("Packet, longest, in either area", open_receiver(3) + receive(whole) + receive(hx("05 31 7E")) + receive(whole) + D,
+           ", H 1 0, ".join(f"P {area} 2048" + " 41" * 2048 for area in (0, 1)))
 
 
 def other_settings():

@@ -1,11 +1,11 @@
 -- The bit steps of a check of any width: they are linear in ⊕, and keep to the width.
 use mathlib.Core.Path.{_≡_, refl}
-use Prim.Native.Nat.{ℕ, zero, suc, _+_, _*_, _/_, _%_, _^_, _<_}
-use native.Mathlib.Nat.{zero-mul, one-mul, add-zero, add-suc}
+use Prim.Native.Nat.{ℕ, zero, suc, _+_, _*_, _/_, _%_, _^_, _≤_, _<_}
+use native.Mathlib.Nat.{zero-mul, one-mul, add-zero, add-suc, pow-suc, lt-of-lt-of-le}
 use native.Mathlib.Omega.{arith}
 use lib.Bits.{shifted-half, shifted-even}
 use lib.Dec.{eqb}
-use lib.Pow.{pow-pos}
+use lib.Pow.{pow-pos, pow-mono}
 use Rattle.fcs.specs.Notation.{if_then_else_, _⊕_}
 use Rattle.fcs.specs.CheckSequence.{Check, Sound, width, bitStep, bitSteps}
 use Rattle.fcs.proofs.Xor as xor
@@ -24,7 +24,7 @@ module _ (k : Check) where
   bit-linear a b =
       rw (by-product (a ⊕ b), by-product a, by-product b, xor.high a b 1, xor.low a b 1, xor.times, xor.regroup (a / 2) (b / 2))
 
-  linear : (n a b : ℕ) → bitSteps k n (a ⊕ b) ≡ bitSteps k n a ⊕ bitSteps k n b
+  pub linear : (n a b : ℕ) → bitSteps k n (a ⊕ b) ≡ bitSteps k n a ⊕ bitSteps k n b
   unfolding bitSteps
   linear zero a b = refl
   linear (suc n) a b = rw bit-linear (linear n (bitStep k a) (bitStep k b))
@@ -45,17 +45,20 @@ module _ (k : Check) where
   steps-add m zero a = rw add-zero
   steps-add m (suc n) a = rw add-suc (steps-add m n (bitStep k a))
 
-  -- apart, and m steps more
-  pub apart-on : (m n a b : ℕ) → bitSteps k (m + n) (a ⊕ b * 2 ^ n) ≡ bitSteps k (m + n) a ⊕ bitSteps k m b
-  apart-on m n a b = rw (steps-add m n (a ⊕ b * 2 ^ n), steps-add m n a, apart, linear)
+  -- what is moved up by n bits waits for n steps
+  pub moved-up : (m n a : ℕ) → bitSteps k (m + n) (a * 2 ^ n) ≡ bitSteps k m a
+  moved-up m n a = rw (steps-add, shifted)
 
--- ---- the steps keep to the width
+-- ---- n steps take what is at most n bits longer than the register into it
 
-pub bits-below : (k : Check) → Sound k → (n a : ℕ) → a < 2 ^ width k → bitSteps k n a < 2 ^ width k
+pub bits-below : (k : Check) → Sound k → (n a : ℕ) → a < 2 ^ (width k + n) → bitSteps k n a < 2 ^ width k
 unfolding bitSteps
-bits-below k sound zero a h = h
+bits-below k sound zero a h = rw add-zero at h
 bits-below k sound (suc n) a h =
+    let w = width k + n in
+    let fits : 2 ^ width k ≤ 2 ^ w = pow-mono (omega arith) in
+    let e : 2 ^ (width k + suc n) ≡ 2 ^ w * 2 = rw add-suc (pow-suc 2 w) in
     bits-below k sound n (bitStep k a)
     (rw (by-product k a)
-    (xor.below (width k) (omega arith)
-    (xor.by-bit (λ b. b * k .polynomial < 2 ^ width k) (simp zero-mul (pow-pos (width k))) (simp one-mul (sound .fits)) a)))
+    (xor.below w (omega arith)
+    (xor.by-bit (λ b. b * k .polynomial < 2 ^ w) (simp zero-mul (pow-pos w)) (simp one-mul (lt-of-lt-of-le (sound .fits) fits)) a)))

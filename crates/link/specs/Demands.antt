@@ -92,6 +92,19 @@ Delivery settings =
     let es = written (freshStation settings low high) (loading l p ∷ replicate (n + 1 + n / 207 + 1) nextOctet) in
     packetsIn (receives (freshReceiver settings first second) (writtenOctets es)) ≡ p ∷ [])
 
+-- And from any sender that keeps to the code table, whatever blocks it chooses: a frame of blocks that the table allows is reported at its
+-- flag, by every receiver that is out of a frame, in bounds and with areas long enough.
+abbrev pub AnyBlocks : Type 0
+AnyBlocks =
+    (e : ReceiverEnd) → ReceiverReady e → e .state .framed ≡ false
+    → (bs : List Block) (p : List ℕ)
+    → (let g = agreed (e .state .settings) in
+    AllAllowed (g .zxe) bs
+    → decodedOctets bs ≡ withPhantom (frame (g .check) p)
+    → leastPacket ≤ length p
+    → length p ≤ g .limit
+    → packetIn (receive (received e (lineOctets bs)) flag) ≡ some p)
+
 -- What demand 3 says of the octets after the chosen flag. upTo: what was written up to and with that flag; w: the sender behind it; e: the
 -- receiver behind it; es: what is written then; hs: the receiver's calls for it.
 --   one: no high packet is under way at the flag, so at most one is, the low lane's
@@ -108,19 +121,6 @@ pub record AfterChosenFlag (upTo : List Written) (w : Station) (e : ReceiverEnd)
   pub through : PacketsComeThrough (not (underWay low false upTo) && receiver.isHeld (e .state .held))
       (atFalse (leftAside (underWay low false upTo) es) es)
       (atFalse (leftAside (underWay low false upTo) es) hs)
-
--- And from any sender that keeps to the code table, whatever blocks it chooses: a frame of blocks that the table allows is reported at its
--- flag, by every receiver that is out of a frame, in bounds and with areas long enough.
-abbrev pub AnyBlocks : Type 0
-AnyBlocks =
-    (e : ReceiverEnd) → ReceiverReady e → e .state .framed ≡ false
-    → (bs : List Block) (p : List ℕ)
-    → (let g = agreed (e .state .settings) in
-    AllAllowed (g .zxe) bs
-    → decodedOctets bs ≡ withPhantom (frame (g .check) p)
-    → leastPacket ≤ length p
-    → length p ≤ g .limit
-    → packetIn (receive (received e (lineOctets bs)) flag) ≡ some p)
 
 -- Demand 3.
 --   every list of load and next-octet calls from a fresh sender, refused ones included, and every flag written: `before`, the call that
