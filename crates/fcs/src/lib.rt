@@ -2,7 +2,7 @@
 ghost use mathlib.Core.Path.{_≡_};
 ghost use Prim.Native.Nat.{_+_, _*_, _^_, _≤_, _<_};
 ghost use lib.ListN.{length, take, drop};
-ghost use Rattle.fcs.specs.CheckSequence.{check16, IsTable, bitSteps, octetStep, lowFirst, feed, register, fcs, good, Sound, FramesEndGood};
+ghost use Rattle.fcs.specs.CheckSequence.{check16, IsTable, bitSteps, octetStep, lowFirst, feed, register, fcs, good, Sound, FramesEndGood, MarkedFcs};
 
 mod tables;
 
@@ -174,5 +174,5 @@ pub fn good16(frame: &[u8]) -> bool
 
 // What is claimed of this crate: each theorem that docs/DEMANDS.md names.
 pub fn claims()
-    ensures { λ _. ⌜ Sound check16 × FramesEndGood check16 ⌝ }
+    ensures { λ _. ⌜ Sound check16 × FramesEndGood check16 × MarkedFcs ⌝ }
 {}

@@ -1,29 +1,27 @@
 -- The receiver takes the blocks of any sender that keeps to the code table.
 use mathlib.Core.Path.{_≡_, refl, sym, ap, subst, _∙_}
-use mathlib.Core.Bool.{Bool, true, false}
 use mathlib.Core.List.{List, [], _∷_, _++_, map, append-assoc, List·Memᴰ, List·Memᴰ·head, List·Memᴰ·tail}
-use mathlib.Core.Option.{some}
 use Prim.Native.Nat.{ℕ, zero, suc, _+_, _-_, _≤_, _<_}
 use native.Mathlib.Omega.{arith}
 use borrow.Author.Tests.{eqb-true, eqb-false}
 use lib.Dec.{eqb}
-use lib.ListN.{length, take, drop, getD, replicate, length-append, length-drop, length-replicate}
+use lib.ListN.{length, drop, getD, replicate, length-append, length-drop, length-replicate}
 use lib.Seq.{drop-append-seam, drop-drop, getD-drop, getD-at}
-use Rattle.cobs.specs.CodeBlocks.{frame, withPhantom, flag, toLine, Block, Allowed, AllAllowed, zerosAfter, decodedOctets, lineOctets}
+use Rattle.cobs.specs.CodeBlocks.{frame, withPhantom, toLine, Block, AllAllowed, zerosAfter, decodedOctets, lineOctets}
 use Rattle.cobs.proofs.Tests.{branch, decide}
 use Rattle.cobs.proofs.Table.{Row, read-row, numbers}
 use Rattle.cobs.proofs.Blocks.{decoded-nil, decoded-cons, on-line-nil, on-line-cons}
 use Rattle.link.specs.Agreed.{Agreed, agreed, mostDecoded}
-use Rattle.link.specs.Receiver.{LastBlock, Working, ReceiverEnd, lastBlock, work, putBack, steps1To4, receive}
-use Rattle.link.specs.Runs.{received, packetIn}
+use Rattle.link.specs.Receiver.{ReceiverEnd, lastBlock, work, steps1To4, receive}
+use Rattle.link.specs.Runs.{received}
 use Rattle.link.specs.Demands.{AnyBlocks}
-use Rattle.link.proofs.ReceiverBounds as heard
 use Rattle.link.proofs.ReceiverBounds.{Ready, fit-work, receive-ready}
+use Rattle.link.proofs.ReadOn.{ready-of}
 use Rattle.link.proofs.Follow.{Ahead, Follows, Moved, follows-back, frame-long, code-opens, code-zeros, data-last, data-more, reports, starts}
 use Rattle.link.proofs.Lock.{passes, follows-at}
 use Rattle.link.proofs.Demands.{sound-check}
 
-received-append : (e : ReceiverEnd) (xs ys : List ℕ) → received e (xs ++ ys) ≡ received (received e xs) ys
+pub received-append : (e : ReceiverEnd) (xs ys : List ℕ) → received e (xs ++ ys) ≡ received (received e xs) ys
 unfolding received
 received-append e [] ys = refl
 received-append e (x ∷ xs) ys = received-append (receive e x .after) xs ys
@@ -153,7 +151,7 @@ any-blocks e r out bs p ok is big small =
     let f = frame (g .check) p in
     let d = withPhantom f in
     let size : length d ≡ length f + 1 = length-append f (0 ∷ []) in
-    let z : Ready g e = record { agrees = refl; bounds = heard.bounds g (e .state) (r .0); first = r .1; second = r .2 } in
+    let z : Ready g e = ready-of e r in
     let depth : length d ≤ mostDecoded g = omega (arith, frame-long g p) in
     let ends : getD d (length d - 1) 0 ≡ 0 = ap (λ (i : ℕ). getD d i 0) (omega arith) ∙ getD-at f 0 [] 0 (length f) refl in
     let a =

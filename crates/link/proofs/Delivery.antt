@@ -3,17 +3,17 @@ use mathlib.Core.Path.{_≡_, refl, sym, ap, _∙_}
 use mathlib.Core.Bool.{Bool, true, false, cond, _&&_}
 use mathlib.Core.List.{List, [], _∷_, _++_, map, append-nil}
 use mathlib.Core.Option.{Option, none, some}
-use Prim.Native.Nat.{ℕ, zero, suc, _+_, _/_, _≤_, _<_}
+use Prim.Native.Nat.{ℕ, zero, suc, _+_, _/_, _≤_}
 use native.Mathlib.Omega.{arith}
 use borrow.Author.Tests.{le-ltb, lt-ltb, ne-eqb}
 use lib.ListN.{length, replicate}
 use Rattle.cobs.specs.CodeBlocks.{frame}
 use Rattle.link.specs.Agreed.{Agreed, agreed, leastPacket, largestFrame}
-use Rattle.link.specs.Answers.{idle, done}
-use Rattle.link.specs.Sender.{Lane, low, high, LaneState, Out, closes, breaksOff, sends, sendsNothing, refuses, laneArea, outAnswer, loaded, next, putFrame, load}
+use Rattle.link.specs.Answers.{idle}
+use Rattle.link.specs.Sender.{Lane, low, high, LaneState, Out, closes, breaksOff, sends, sendsNothing, refuses, laneArea, outAnswer, next, putFrame, load}
 use Rattle.link.specs.SenderParts.{SenderReady}
 use Rattle.link.specs.Receiver.{Receive}
-use Rattle.link.specs.Runs.{Station, Lanes, Written, SenderCall, loading, nextOctet, freshStation, lanePacket, lanesAfter, sameLane, isDone, loadedBy, afterLoad, afterNext, run, loadedInto, writes, written, writtenOctets, sentBy, atTrue, receives, packetIn, present, packetsIn, closedBy, closedPackets}
+use Rattle.link.specs.Runs.{Station, Written, SenderCall, loading, nextOctet, freshStation, lanePacket, lanesAfter, sameLane, isDone, loadedBy, afterLoad, afterNext, run, loadedInto, writes, written, writtenOctets, sentBy, atTrue, receives, packetIn, present, packetsIn, closedBy, closedPackets}
 use Rattle.link.specs.Progress.{BothEmpty, callsToEmpty}
 use Rattle.link.specs.Demands.{freshReceiver, LongEnough, NothingLoadedIsLost, Delivery}
 use Rattle.link.proofs.Follow.{frame-long}

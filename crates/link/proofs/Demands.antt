@@ -12,16 +12,15 @@ use Rattle.fcs.proofs.Laws.{sound16}
 use Rattle.cobs.specs.CodeBlocks.{flag}
 use Rattle.link.specs.Agreed.{Agreed, agreed, mostDecoded}
 use Rattle.link.specs.Answers.{Answer, done, octet, idle, quiet, packet, held, refused}
-use Rattle.link.specs.Sender.{Lane, low, high, OnLine, noLane, sending, LaneState, Out, closes, breaksOff, sends, sendsNothing, refuses, outAnswer, next}
+use Rattle.link.specs.Sender.{Lane, low, high, OnLine, noLane, sending, LaneState, Out, closes, breaksOff, sends, sendsNothing, refuses, next}
 use Rattle.link.specs.Receiver.{ReceiverEnd, Receive, isHeld, receive}
 use Rattle.link.specs.Receiver as receiver
-use Rattle.link.specs.Runs.{Station, Written, SenderCall, loading, nextOctet, freshStation, writes, written, writtenOctets, atTrue, atFalse, receives, received, packetIn, refusalIn, refusalOf, standsFor, present, packetsIn, refusalsIn, underWay, endsItsFrame, asideAfter, leftAside, replacesAfter, AllArrive, ExpectedReport, AllAsExpected, closedBy, closedPackets, run, afterLoad, afterNext}
-use Rattle.link.specs.Demands.{freshReceiver, PacketsComeThrough, SoundLine, AfterChosenFlag, Demand3}
-use Rattle.link.proofs.Tests.{true-false, false-true}
+use Rattle.link.specs.Runs.{Station, Written, SenderCall, loading, nextOctet, freshStation, writes, written, writtenOctets, atTrue, atFalse, receives, received, packetIn, refusalIn, refusalOf, standsFor, present, refusalsIn, underWay, endsItsFrame, asideAfter, leftAside, replacesAfter, AllArrive, ExpectedReport, AllAsExpected, closedBy, run, afterLoad, afterNext}
+use Rattle.link.specs.Demands.{freshReceiver, PacketsComeThrough, SoundLine, Demand3}
 use Rattle.link.proofs.ReceiverBounds.{Ready, out-of-frame-in, flag-ends, receive-ready}
 use Rattle.link.proofs.Way.{sender}
 use Rattle.link.proofs.Sound.{station, Sound, sound-fresh, sound-run, sound-load, sound-next}
-use Rattle.link.proofs.Lock.{HeldIs, HeldLow, Lock, Answered, Leads, lock-next, lock-load}
+use Rattle.link.proofs.Lock.{HeldLow, Lock, Answered, Leads, lock-next, lock-load}
 use Rattle.link.proofs.UnderWay.{flag-off, under-way, underWayBy, underWayIn, run-append}
 
 -- ---- in step through a list of calls

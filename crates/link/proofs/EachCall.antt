@@ -1,11 +1,11 @@
 -- What holds of every single call.
 use mathlib.Core.Path.{_≡_, refl, sym, ap, subst, _∙_}
-use mathlib.Core.Bool.{Bool, true, false, cond, not, _&&_, _||_}
+use mathlib.Core.Bool.{Bool, true, false, cond, not, _||_}
 use mathlib.Core.List.{List, [], _∷_, _++_}
 use mathlib.Core.Logic.{_⊎_, inl, inr}
 use Prim.Native.Nat.{ℕ, _+_, _-_, _≤_, _<_}
 use native.Mathlib.Omega.{arith}
-use borrow.Author.Tests.{eqb-true, eqb-false, ltb-true, ltb-false, eq-eqb, ne-eqb, not-true, not-false}
+use borrow.Author.Tests.{eqb-true, eqb-false, ltb-false, ne-eqb, not-true, not-false}
 use lib.Dec.{ltb, eqb}
 use lib.ListN.{length, take, drop, replicate, length-append}
 use lib.Seq.{take-append-seam, drop-append-seam, take-take, drop-drop, take-at, drop-at, length-take-le}
@@ -15,17 +15,17 @@ use Rattle.cobs.specs.declared.Meaning.{Meaning}
 use Rattle.cobs.specs.declared.Meaning.the-variants.{InTable, NotAgreed, NoCode}
 use Rattle.cobs.proofs.Tests.{branch, decide}
 use Rattle.cobs.proofs.Exchange.{from-line}
-use Rattle.link.specs.Agreed.{Agreed, agreed, leastPacket, leastFrame, largestFrame, mostDecoded}
+use Rattle.link.specs.Agreed.{Agreed, agreed, leastFrame, mostDecoded}
 use Rattle.link.specs.Answers.{Answer, done, octet, idle, quiet, packet, held, refused}
-use Rattle.link.specs.Sender.{Lane, low, high, OnLine, noLane, Sender, SenderEnd, Out, closes, breaksOff, sends, sendsNothing, refuses, Step, Load, emptyLane, laneState, withLane, laneD, outAnswer, putFrame, load, next}
-use Rattle.link.specs.Receiver.{Fragment, nothingHeld, holds, Receiver, Working, ReceiverEnd, Receive, Ended, outOfFrame, isNoBlock, isD0, isHeld, heldAfter, write, step4Refuse, step3Write, step3Decode, step3Data, step2ByMeaning, step2Code, step1ResumeHeld, step1D1, step1FirstOctet, steps1To4, step5End, step5Hold, step5WithoutPhantom, step5Flag, atFlag, areaOf, work, putBack, flagged, receive}
+use Rattle.link.specs.Sender.{Lane, low, high, OnLine, noLane, Sender, SenderEnd, closes, Step, emptyLane, laneState, outAnswer, putFrame, load, next}
+use Rattle.link.specs.Receiver.{Fragment, nothingHeld, holds, Receiver, Working, ReceiverEnd, Receive, Ended, isNoBlock, isD0, heldAfter, write, step4Refuse, step3Write, step3Decode, step3Data, step2ByMeaning, step2Code, step1ResumeHeld, step1D1, step1FirstOctet, steps1To4, step5End, step5WithoutPhantom, step5Flag, atFlag, work, putBack, flagged, receive}
 use Rattle.link.specs.Receiver as receiver
-use Rattle.link.specs.ReceiverParts.{ReceiverReady}
 use Rattle.link.specs.EachCall.{RefusedChangesNothing, IdleChangesNothing, Loads, DoneLoads, SettingsStay, ClosedIsEmpty, TakesIn, BlockOver, Resumes, HeldThen, NotHeldThen, EndsFrame, ReceivesSo}
 use Rattle.link.proofs.Tests.{if-so, if-not, not-below}
 use Rattle.link.proofs.Way.{Way, ends, cuts, warns, goes, sender, Turn, cut·due, idles, resumes·low, begins·high, begins·low, high·on, low·on, by-next}
 use Rattle.link.proofs.Write.{length-write, take-write}
 use Rattle.link.proofs.ReceiverBounds as heard
+use Rattle.link.proofs.ReadOn.{ready-of}
 use Rattle.link.proofs.Follow.{work-back, aside-back}
 use Rattle.link.proofs.Resumed.{D1-is}
 use Rattle.link.proofs.SenderBounds as sent
@@ -147,9 +147,6 @@ next-refused : (e : SenderEnd) (n : ℕ) → outAnswer (next e .out) ≡ refused
 next-refused e n = next-stays e (refused n) (λ x q. let z : _≡_ {A = ℕ} 0 1 = cc in omega arith)
 
 -- ---- the receiver
-
-ready-of : (e : ReceiverEnd) → ReceiverReady e → heard.Ready (agreed (e .state .settings)) e
-ready-of e r = record { agrees = refl; bounds = heard.bounds (agreed (e .state .settings)) (e .state) (r .0); first = r .1; second = r .2 }
 
 receive-refused : (e : ReceiverEnd) (x n : ℕ) → n < 5 → receive e x .report ≡ refused n → receive e x .after ≡ e
 unfolding receive

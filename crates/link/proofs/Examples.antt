@@ -1,7 +1,7 @@
 -- Settings and refusals, by example, computed of the steps as the marked cases are; 137 times DF by the law of those. With Marked.antt this file
 -- opens the lower crates' definitions.
 use mathlib.Core.Path.{_≡_, refl, sym, subst, _∙_}
-use mathlib.Core.Bool.{Bool, true, false, cond, _&&_, _||_}
+use mathlib.Core.Bool.{true, cond, _&&_, _||_}
 use mathlib.Core.Logic.{⊎-elim}
 use mathlib.Core.List.{List, [], _∷_, _++_, List·Memᴰ, List·Memᴰ·not-nil, List·Memᴰ·cases-cons}
 use Prim.Native.Nat.{ℕ, _+_, _*_, _/_, _%_, _≤_}
@@ -21,7 +21,8 @@ use Rattle.link.specs.Receiver.{step3Decode, step3Data, step2ByMeaning, 
 use Rattle.link.specs.Receiver as receiver
 use Rattle.link.specs.Runs.{afterLoad, afterNext, run, senderAnswers, written, receives, notQuiet, received}
 use Rattle.link.specs.Examples.{OtherBitsIgnored, Limits, PacketLengths, Example, Tells, settingsExamples, codeExamples, callExamples, senderBounds, receiverBounds, emptyExamples, frameExamples, heldExamples, examples, Examples}
-use Rattle.link.proofs.Marked.{lanes, many-over}
+use Rattle.link.proofs.UnderWay.{lanes}
+use Rattle.link.proofs.Marked.{many-over}
 
 abbrev AllHold : List Example → Type 0
 AllHold [] = Unit {0}

@@ -1,21 +1,19 @@
 -- The two ends in step after a flag: a call of the sender, and the receiver's call for the octet that it writes.
 use mathlib.Core.Path.{_≡_, refl, sym, ap, subst, subst₃, _∙_}
-use mathlib.Core.Bool.{Bool, true, false, cond, not, _&&_, _||_}
+use mathlib.Core.Bool.{Bool, true, false, cond, not, _&&_}
 use mathlib.Core.List.{List}
 use mathlib.Core.Option.{Option, none, some}
 use Prim.Native.Nat.{ℕ, _+_, _-_, _≤_, _<_}
 use native.Mathlib.Omega.{arith}
-use lib.Dec.{ltb}
 use lib.ListN.{length, drop, getD}
 use Rattle.fcs.specs.CheckSequence as check
 use Rattle.cobs.specs.CodeBlocks.{frame, withPhantom, flag, toLine, choice}
-use Rattle.cobs.proofs.Tests.{branch}
 use Rattle.cobs.proofs.Exchange.{no-flag, from-line, turned-back}
 use Rattle.cobs.proofs.Table.{numbers}
 use Rattle.link.specs.Agreed.{Agreed, largestFrame, mostDecoded}
 use Rattle.link.specs.Answers.{Answer, held, refused}
-use Rattle.link.specs.Sender.{Lane, low, high, OnLine, noLane, sending, LaneState, Out, closes, breaksOff, sends, sendsNothing, refuses, Step, laneD, loaded, inBounds, next, putFrame}
-use Rattle.link.specs.Receiver.{Fragment, nothingHeld, holds, Receiver, Working, ReceiverEnd, Receive, isHeld, heldAfter, work, putBack, steps1To4, receive}
+use Rattle.link.specs.Sender.{Lane, low, high, OnLine, noLane, sending, LaneState, Out, closes, breaksOff, sends, sendsNothing, refuses, Step, laneD, loaded, next, putFrame}
+use Rattle.link.specs.Receiver.{Fragment, nothingHeld, Working, ReceiverEnd, Receive, isHeld, work, putBack, steps1To4, receive}
 use Rattle.link.specs.Runs.{Lanes, Station, lanePacket, afterLoad, afterStep, afterNext, Written, endsItsFrame, asideAfter, replacesAfter, Arrives, ExpectedReport}
 use Rattle.link.proofs.Tests.{true-false, false-true}
 use Rattle.link.proofs.Way.{Advance, last, more, covers, opens, Way, ends, cuts, warns, goes, sender, Turn, cut·due, idles, resumes·low, begins·high, begins·low, high·on, low·on, by-next}

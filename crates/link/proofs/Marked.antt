@@ -17,7 +17,7 @@ use Rattle.cobs.proofs.Exchange.{from-line}
 use Rattle.cobs.proofs.Table.{run-row, row-read}
 use Rattle.link.specs.Agreed.{Agreed, agreed, leastFrame, mostDecoded}
 use Rattle.link.specs.Answers.{refused}
-use Rattle.link.specs.Sender.{Lane, low, high, putFrame, load, step4BreakOff, step5Data, step6Code, steps3To6, step2NoLane, steps1To6, next}
+use Rattle.link.specs.Sender.{putFrame, load, step4BreakOff, step5Data, step6Code, steps3To6, step2NoLane, steps1To6, next}
 use Rattle.link.specs.Sender as sender
 use Rattle.link.specs.Receiver.{Working, ReceiverEnd, Receive, Ended, isNoBlock, isD0, step3Decode, step3Data, step2ByMeaning, step2Code, step1ResumeHeld, step1D1, step1FirstOctet, steps1To4, step5WithoutPhantom, step5Flag, atFlag, work, putBack, flagged, receive}
 use Rattle.link.specs.Receiver as receiver
@@ -27,17 +27,15 @@ use Rattle.link.specs.Marked.{Case, refusedTen, Says, receiverArea, case
 use Rattle.link.proofs.Tests.{if-so, if-not, true-false}
 use Rattle.link.proofs.ReceiverBounds.{Ready, receive-flag, receive-other, receive-ready}
 use Rattle.link.proofs.Follow.{steps-code, code-is}
+use Rattle.link.proofs.UnderWay.{lanes}
 use Rattle.link.proofs.Demands.{ready-fresh}
+use Rattle.link.proofs.AnyBlocks.{received-append}
 
 abbrev AllHold : List Case → Type 0
 AllHold [] = Unit {0}
 AllHold (c ∷ cs) = Says c × AllHold cs
 
 -- ---- (a) to (g) and (i): computed
-
-pub lanes : (P : Lane → Type 0) → P low → P high → (l : Lane) → P l
-lanes P h k low = h
-lanes P h k high = k
 
 a-to-g : AllHold (take 7 cases)
 unfolding written receives notQuiet afterLoad afterNext agreed putFrame load step4BreakOff step5Data step6Code steps3To6 step2NoLane steps1To6 next sender.inBounds step3Decode step3Data step2ByMeaning step2Code step1ResumeHeld step1D1 step1FirstOctet steps1To4 step5WithoutPhantom step5Flag atFlag receive receiver.inBounds inRange codeTable meaning toLine fromLine leading choice _⊕_ bitStep bitSteps entry octetStep feed register lowFirst fcs good
@@ -99,10 +97,9 @@ runs g zxe (suc m) n e room d =
     subst (λ (k : ℕ). Decoded g k (received (receive e 0xDF .after) (replicate m 0xDF))) (omega arith)
     (runs g zxe m (n + 15) (receive e 0xDF .after) (omega arith) (run-on g zxe n 15 (omega arith) (omega arith) e d (omega arith)))
 
-received-append : (e : ReceiverEnd) (xs : List ℕ) (x : ℕ) → received e (xs ++ (x ∷ [])) ≡ receive (received e xs) x .after
+then : (e : ReceiverEnd) (xs : List ℕ) (x : ℕ) → received e (xs ++ (x ∷ [])) ≡ receive (received e xs) x .after
 unfolding received
-received-append e [] x = refl
-received-append e (y ∷ xs) x = received-append (receive e y .after) xs x
+then e xs x = received-append e xs (x ∷ [])
 
 -- at the flag the remembered refusal is reported; with none remembered it isn't 10
 module _ (g : Agreed) (e : ReceiverEnd) (z : Ready g e) where
@@ -157,12 +154,12 @@ h·DB : Says (refusedTen (replicate 136 0xDF ++ (0xDB ∷ [])) false)
 h·DB =
     let e = received (freshReceiver 0x03 receiverArea receiverArea) (replicate 136 0xDF) in
     let d = run-on g·3 zxe·3 2040 11 (omega arith) (omega arith) e many (omega (arith, room·3)) in
-    rw (received-append (freshReceiver 0x03 receiverArea receiverArea) (replicate 136 0xDF) 0xDB) (not-ten g·3 (receive e 0xDB .after) (d .ready) (d .clean))
+    rw (then (freshReceiver 0x03 receiverArea receiverArea) (replicate 136 0xDF) 0xDB) (not-ten g·3 (receive e 0xDB .after) (d .ready) (d .clean))
 
 over : (z : ℕ) → 11 < z → z ≤ 15 → Says (refusedTen (replicate 136 0xDF ++ ((0xD0 + z) ∷ [])) true)
 over z h k =
     let e = received (freshReceiver 0x03 receiverArea receiverArea) (replicate 136 0xDF) in
-    rw (received-append (freshReceiver 0x03 receiverArea receiverArea) (replicate 136 0xDF) (0xD0 + z))
+    rw (then (freshReceiver 0x03 receiverArea receiverArea) (replicate 136 0xDF) (0xD0 + z))
     (told-refusal g·3 (receive e (0xD0 + z) .after) (receive-ready g·3 e (0xD0 + z) (many .ready)) 9
     (run-over g·3 zxe·3 2040 z (omega arith) k e many (omega (arith, room·3))))
 

@@ -22,12 +22,12 @@ use Rattle.link.proofs.ReceiverCases.{inner-octet, too-short, out-of-bo
 receiver-ready : (g : Agreed) (e : ReceiverEnd) → Ready g e → ReceiverReady e
 receiver-ready g e z = rw (z .agrees) (in-bounds g (e .state) (z .bounds), z .first, z .second)
 
-ready : (e : ReceiverEnd) → ReceiverReady e → Ready (agreed (e .state .settings)) e
-ready e a = record { agrees = refl; bounds = bounds _ _ (a .0); first = a .1; second = a .2 }
+pub ready-of : (e : ReceiverEnd) → ReceiverReady e → Ready (agreed (e .state .settings)) e
+ready-of e a = record { agrees = refl; bounds = bounds _ _ (a .0); first = a .1; second = a .2 }
 
 -- so many octets at most are decoded
 pub deep : (e : ReceiverEnd) → ReceiverReady e → e .state .decoded ≤ mostDecoded (agreed (e .state .settings))
-deep e a = ready e a .bounds .deep
+deep e a = ready-of e a .bounds .deep
 
 abbrev answered : Receive → Answer
 answered h = h .report
@@ -43,7 +43,7 @@ after-quiet e x q =
     let short = ltb (length (e .first)) m || ltb (length (e .second)) m in
     decide short (λ s. refused-quiet 2 (ap answered (sym (too-short e x s)) ∙ q))
     (λ s. decide (inBounds g (e .state))
-    (λ b. let l = not-below _ m _ m s in receiver-ready g (receive e x .after) (receive-ready g e x (ready e (b, l .0, l .1))))
+    (λ b. let l = not-below _ m _ m s in receiver-ready g (receive e x .after) (receive-ready g e x (ready-of e (b, l .0, l .1))))
     (λ b. refused-quiet 3 (ap answered (sym (out-of-bounds e x s b)) ∙ q)))
 
 -- a refusal is remembered: an octet that is no flag is skipped
@@ -60,7 +60,7 @@ pub decodes : (e : ReceiverEnd) (x : ℕ) → ReceiverReady e → e .state .refu
     → receive e x ≡ record { report = quiet; after = afterData 1 (set (work e .area) (e .state .decoded) (fromLine x)) e }
 decodes e x a n l room h =
     let g = agreed (e .state .settings) in
-    let z = ready e a in
+    let z = ready-of e a in
     let w = work e in
     let y = fromLine x in
     let more : w .state .left ≡ 1 → ⊥ = λ k. omega arith in

@@ -35,7 +35,6 @@ use Rattle.link.specs.Receiver.{
   isNoBlock,
   isD0,
   step5End,
-  step5Hold,
   step5InBlock,
   step5WithoutPhantom,
   step5Flag,

@@ -14,7 +14,7 @@ use Rattle.cobs.proofs.Table.{numbers}
 use Rattle.cobs.proofs.Chosen.{Stands, chosen-at}
 use Rattle.link.specs.Agreed.{Agreed, agreed, leastPacket, leastFrame, largestFrame}
 use Rattle.link.specs.Answers.{refused}
-use Rattle.link.specs.Sender.{Lane, low, high, OnLine, noLane, sending, LaneState, Sender, SenderEnd, Step, Load, laneState, loaded, laneD, laneArea, laneOk, lineOk, laneOnLineOk, inBounds, putFrame, load, step1CutDue, next}
+use Rattle.link.specs.Sender.{Lane, low, high, OnLine, noLane, sending, LaneState, Sender, SenderEnd, Step, Load, laneState, loaded, laneD, laneOk, lineOk, laneOnLineOk, inBounds, putFrame, load, step1CutDue, next}
 use Rattle.link.proofs.Tests.{ands, true-false, false-true, not-below, or-cases}
 use Rattle.link.proofs.Way.{Advance, last, more, covers, opens, Way, ends, cuts, warns, goes, sender, Turn, cut·due, idles, resumes·low, begins·high, begins·low, high·on, low·on, turn}
 use Rattle.link.proofs.Follow.{frame-long}

@@ -1,18 +1,16 @@
 -- The sender by itself: through every call of a run its areas hold the frames of the packets that its lanes were loaded with, and the
 -- block on the line stands in D.
 use mathlib.Core.Path.{_≡_, refl, sym, ap, _∙_}
-use mathlib.Core.Bool.{Bool, true, false, not, _||_}
+use mathlib.Core.Bool.{Bool, true, false}
 use mathlib.Core.List.{List, [], _∷_, _++_}
 use mathlib.Core.Option.{Option, none, some}
 use Prim.Native.Nat.{ℕ, _+_, _≤_, _<_}
 use native.Mathlib.Omega.{arith}
-use lib.Dec.{ltb}
 use lib.ListN.{length, take, drop, getD, length-take}
 use lib.Seq.{getD-drop, take-append-seam}
 use Rattle.cobs.specs.CodeBlocks.{frame}
-use Rattle.cobs.proofs.Tests.{branch}
-use Rattle.link.specs.Agreed.{Agreed, agreed, leastPacket, largestFrame}
-use Rattle.link.specs.Sender.{Lane, low, high, OnLine, noLane, sending, LaneState, Sender, Step, laneArea, laneD, inBounds, next, putFrame}
+use Rattle.link.specs.Agreed.{Agreed, agreed, leastPacket}
+use Rattle.link.specs.Sender.{Lane, low, high, OnLine, noLane, sending, LaneState, Sender, Step, laneArea, laneD, putFrame}
 use Rattle.link.specs.Runs.{Station, freshStation, loadedBy, afterLoad, afterStep, afterNext, run, SenderCall, loading, nextOctet}
 use Rattle.link.proofs.Tests.{true-false, false-true}
 use Rattle.link.proofs.Way.{Advance, last, more, covers, opens, Way, ends, cuts, warns, goes, sender, Turn, cut·due, idles, resumes·low, begins·high, begins·low, high·on, low·on, by-next}

@@ -1,18 +1,14 @@
 -- Which packets are under way, told by the written octets and by the state; and after a flag no lane is on the line.
 use mathlib.Core.Path.{_≡_, refl, sym, ap, _∙_}
-use mathlib.Core.Bool.{Bool, true, false, not, _||_}
+use mathlib.Core.Bool.{Bool, true, false}
 use mathlib.Core.List.{List, [], _∷_, _++_}
-use mathlib.Core.Option.{Option}
 use Prim.Native.Nat.{ℕ}
 use native.Mathlib.Omega.{arith}
-use lib.Dec.{ltb}
-use lib.ListN.{length}
 use Rattle.cobs.specs.CodeBlocks.{flag, toLine}
-use Rattle.cobs.proofs.Tests.{branch}
 use Rattle.cobs.proofs.Exchange.{no-flag}
-use Rattle.link.specs.Agreed.{Agreed, largestFrame}
+use Rattle.link.specs.Agreed.{Agreed}
 use Rattle.link.specs.Answers.{Answer, octet, idle, refused}
-use Rattle.link.specs.Sender.{Lane, low, high, OnLine, noLane, sending, LaneState, Out, closes, breaksOff, sends, sendsNothing, refuses, Step, outAnswer, laneD, inBounds, next, putFrame}
+use Rattle.link.specs.Sender.{Lane, low, high, OnLine, noLane, sending, LaneState, Out, closes, breaksOff, sends, sendsNothing, refuses, Step, outAnswer, laneD, next, putFrame}
 use Rattle.link.specs.Runs.{Station, underWayAfter, underWay, Written, writes, written, afterLoad, afterNext, run, SenderCall, loading, nextOctet}
 use Rattle.link.proofs.Tests.{true-false}
 use Rattle.link.proofs.Way.{Way, ends, cuts, warns, goes, sender, Turn, cut·due, idles, resumes·low, begins·high, begins·low, high·on, low·on, by-next}
@@ -46,7 +42,7 @@ pub record After (o : OnLine) (u : Bool) (st : Step) : Type 0 where
   pub way : (l : Lane) → underWayAfter l (underWayBy l o u) (st .out) ≡ underWayBy l (st .state .on) (st .state .suspended)
   pub off : asFlag (outAnswer (st .out)) → st .state .on ≡ noLane
 
-lanes : (P : Lane → Type 0) → P low → P high → (l : Lane) → P l
+pub lanes : (P : Lane → Type 0) → P low → P high → (l : Lane) → P l
 lanes P h k low = h
 lanes P h k high = k
 

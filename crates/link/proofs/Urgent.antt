@@ -1,17 +1,17 @@
 -- Urgent packets go first.
-use mathlib.Core.Path.{_≡_, refl, sym, ap, subst, _∙_}
+use mathlib.Core.Path.{_≡_, refl, sym, ap, _∙_}
 use mathlib.Core.Bool.{Bool, true, false, cond}
 use mathlib.Core.Logic.{_⊎_, inl, inr, ⊎-elim}
 use mathlib.Core.List.{List, [], _∷_, List·Memᴰ, List·Memᴰ·head, List·Memᴰ·tail, List·Memᴰ·not-nil, List·Memᴰ·cases-cons}
 use mathlib.Core.Option.{Option}
-use Prim.Native.Nat.{ℕ, zero, suc, _+_, _≤_, _<_}
+use Prim.Native.Nat.{ℕ, zero, suc, _≤_, _<_}
 use native.Mathlib.Omega.{arith}
 use borrow.Author.Tests.{ltb-true, lt-ltb, le-ltb}
 use lib.Dec.{ltb}
 use lib.ListN.{replicate}
 use Rattle.link.specs.Agreed.{Agreed, agreed}
-use Rattle.link.specs.Answers.{done, refused}
-use Rattle.link.specs.Sender.{Lane, low, high, OnLine, noLane, sending, LaneState, Sender, SenderEnd, Out, closes, breaksOff, sends, sendsNothing, refuses, Step, laneD, loaded, load, next, putFrame}
+use Rattle.link.specs.Answers.{done}
+use Rattle.link.specs.Sender.{Lane, low, high, OnLine, noLane, sending, LaneState, Sender, Out, closes, breaksOff, sends, sendsNothing, refuses, Step, laneD, load, next, putFrame}
 use Rattle.link.specs.SenderParts.{SenderReady}
 use Rattle.link.specs.Runs.{Station, Written, SenderCall, loading, nextOctet, writes, written, sentBy, isOf, loadedBy, afterLoad, afterNext}
 use Rattle.link.specs.Progress.{brokenOffAfter, OnlyHighUntilD1, UrgentFirst}

@@ -1,8 +1,8 @@
 -- Reading on loses nothing of what the calls for each octet answer.
 use mathlib.Core.Path.{_≡_, refl, sym, ap, _∙_}
 use mathlib.Core.Bool.{Bool, true, false}
-use mathlib.Core.List.{List, [], _∷_, _++_, map, map-append, flatten}
-use Prim.Native.Nat.{ℕ, zero, suc, _+_, _-_, _≤_, _<_}
+use mathlib.Core.List.{List, [], _∷_, _++_, map-append, flatten}
+use Prim.Native.Nat.{ℕ, zero, suc, _+_, _-_, _≤_}
 use native.Mathlib.Numerals.{one-add}
 use native.Mathlib.Omega.{arith}
 use Rattle.fcs.specs.Notation.{if_then_else_}
@@ -10,8 +10,8 @@ use lib.ListN.{length, take, drop, replicate, take-append-drop, length-drop, dro
 use Rattle.link.specs.Answers.{Answer, done, octet, idle, quiet, packet, held, refused, isQuiet}
 use Rattle.link.specs.Receiver.{ReceiverEnd, Receive, receive}
 use Rattle.link.specs.Runs.{receives, received, notQuiet}
-use Rattle.reader.specs.Reading.{Reach, usedBefore, readOn}
-use Rattle.reader.specs.NothingLost.{answersOf, Reading, AsTheCalls, notQuietCalls, reports, lastCall, GoesOn, FirstThenRest, InTwoStretches, StretchesJoin, StretchCalls, readStretch, readStretches, AllReported}
+use Rattle.reader.specs.Reading.{Reach, readOn}
+use Rattle.reader.specs.NothingLost.{answersOf, Reading, AsTheCalls, notQuietCalls, lastCall, GoesOn, FirstThenRest, StretchesJoin, StretchCalls, readStretch, readStretches, AllReported}
 use Rattle.reader.proofs.Steps.{from-quiet, at-report}
 
 pub is-quiet : (a : Answer) → isQuiet a ≡ true → a ≡ quiet

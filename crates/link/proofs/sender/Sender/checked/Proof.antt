@@ -2,7 +2,6 @@
 use mathlib.Core.Path.{sym, _∙_}
 use borrow.Author.Needs.{needs}
 use borrow.Author.Tests.{not-true, not-false}
-use Rattle.link.specs.Agreed.{agreed}
 use Rattle.link.specs.Sender.{next}
 use Rattle.link.proofs.Tests.{none-short}
 use Rattle.link.proofs.sender.Sender.checked.Statement.{statement}

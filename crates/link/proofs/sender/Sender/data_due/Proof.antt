@@ -1,5 +1,4 @@
 -- `link::sender::Sender::data_due`.
-use native.Mathlib.Omega.{arith}
 use borrow.Author.Needs.{needs}
 use Rattle.link.specs.Agreed.{agreed}
 use Rattle.link.proofs.Tests.{false-true}
