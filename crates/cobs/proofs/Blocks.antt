@@ -7,11 +7,17 @@ use mathlib.Core.Option.{some, Option·some-injective}
 use Prim.Native.Nat.{ℕ, zero, suc, _+_, _≤_, _<_}
 use native.Mathlib.Omega.{arith}
 use borrow.Author.Tests.{le-leb}
-use lib.ListN.{length, replicate, length-append, length-map}
+use lib.ListN.{length, getD, replicate, length-append, length-map}
 use lib.Seq.{take-append-seam, drop-append-seam}
 use Rattle.cobs.specs.CodeBlocks.{flag, toLine, fromLine, Block, Allowed, AllAllowed, zerosAfter, decodedOctets, lineOctets, parse, readBlocks}
 use Rattle.cobs.proofs.Table.{read-row, numbers}
 use Rattle.cobs.proofs.Exchange.{no-flag, turned-back}
+
+-- the octets of a list without a zero, at the head of another
+pub nonzero-first : (xs ys : List ℕ) (i : ℕ) → (List·Memᴰ 0 xs → ⊥) → i < length xs → getD (xs ++ ys) i 0 ≡ 0 → ⊥
+nonzero-first [] ys i f h e = absurd (omega arith)
+nonzero-first (x ∷ xs) ys zero f h e = f (List·Memᴰ·head (sym e))
+nonzero-first (x ∷ xs) ys (suc i) f h e = nonzero-first xs ys i (λ m. f (List·Memᴰ·tail m)) (omega arith) e
 
 -- ---- lists of blocks
 

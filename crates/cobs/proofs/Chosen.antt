@@ -27,18 +27,20 @@ module _ (zxe : Bool) (rest : List ℕ) (some : 0 < length rest) (end : EndsInZe
   pub chosen : Stands zxe rest (choice zxe rest)
   unfolding choice
   chosen =
-      let z = leadingZeros 15 rest in
+      let most : ℕ = 15 in
+      let z = leadingZeros most rest in
       let k = leadingNonzeros 207 rest in
       let y = leadingZeros 2 (drop k rest) in
       let kin : k < length rest = nonzeros-inside 207 rest some end in
       let kmost : k ≤ 207 = at-most isNonzero 207 rest in
-      branch (Stands zxe rest) (zxe && leb 3 z)
+      let run = leb 3 z in
+      branch (Stands zxe rest) (zxe && run)
       (λ e.
       record {
-        row = run-row z (and-left zxe (leb 3 z) e) (leb-true 3 z (and-right zxe (leb 3 z) e)) (at-most isZero 15 rest);
+        row = run-row z (and-left zxe run e) (omega (arith, leb-true _ z (and-right zxe run e))) (omega (arith, at-most isZero most rest));
         nonzero = λ i h. absurd (omega arith);
-        zero = λ i h l. zeros-at 15 rest i (omega arith);
-        inside = omega (arith, within isZero 15 rest);
+        zero = λ i h l. zeros-at most rest i (omega arith);
+        inside = omega (arith, within isZero most rest);
         more = some;
       })
       (λ _. branch (Stands zxe rest) (eqb k 207)
@@ -60,7 +62,7 @@ module _ (zxe : Bool) (rest : List ℕ) (some : 0 < length rest) (end : EndsInZe
       let on·few : (zxe && few) ≡ true = and-left (zxe && few) pair t in
       let two : y ≡ 2 = eqb-true y 2 (and-right (zxe && few) pair t) in
       record {
-        row = pair-row k (and-left zxe few on·few) (leb-true k 30 (and-right zxe few on·few));
+        row = pair-row k (and-left zxe few on·few) (omega (arith, leb-true k _ (and-right zxe few on·few)));
         nonzero = nonzeros-at 207 rest;
         zero = λ i h l. ap (λ (j : ℕ). getD rest j 0) (omega arith) ∙ (sym (getD-drop k rest (i - k) 0) ∙ zeros-at 2 (drop k rest) (i - k) (omega arith));
         inside = omega (arith, within isZero 2 (drop k rest), length-drop k rest);

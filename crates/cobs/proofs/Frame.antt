@@ -49,7 +49,7 @@ zeros-from l from n fits all =
 -- ---- a block that stands at the head of a rest of D
 
 module _ (zxe : Bool) (rest : List ℕ) (c : Choice) (f : Stands zxe rest c) where
-  data-long : length (take (c .nonzeros) rest) ≡ c .nonzeros
+  pub data-long : length (take (c .nonzeros) rest) ≡ c .nonzeros
   data-long = length-take-le (c .nonzeros) rest (omega (arith, f .inside))
 
   zeros-is : zerosAfter (blockAt rest c) ≡ c .zeros
@@ -88,6 +88,10 @@ module _ (zxe : Bool) where
   unfolding blocksFrom
   blocks-from-none zero = refl
   blocks-from-none (suc n) = refl
+
+  pub blocks-none : blocks zxe [] ≡ []
+  unfolding blocks
+  blocks-none = blocks-from-none 0
 
   blocks-from-next : (n : ℕ) (rest : List ℕ) → 0 < length rest
       → blocksFrom zxe (suc n) rest ≡ blockAt rest (choice zxe rest) ∷ blocksFrom zxe n (drop (coveredBy (choice zxe rest)) rest)
@@ -156,6 +160,10 @@ module _ (zxe : Bool) (f : List ℕ) where
       (λ rest bs fits ih. rw (decoded-cons, ih) (block-covers zxe rest (choice zxe rest) fits))
       (withPhantom f) (ends f)
 
+  pub frame-sent : uninterrupted zxe f ≡ lineOctets (blocks zxe (withPhantom f))
+  unfolding uninterrupted
+  frame-sent = refl
+
   -- what is sent of it has no flag, and is read back as its blocks and so as D
   pub frame-flagless : List·Memᴰ flag (uninterrupted zxe f) → ⊥
   unfolding uninterrupted
@@ -195,8 +203,7 @@ module _ (zxe : Bool) (f : List ℕ) where
       ∙ ap (λ (l : List ℕ). blockAt rest c ∷ blocks zxe l) (drop-drop (coveredBy c) pos (withPhantom f))
 
   pub frame-end : (pos : ℕ) → length f < pos → blocks zxe (drop pos (withPhantom f)) ≡ []
-  unfolding blocks
-  frame-end pos h = ap (blocks zxe) (drop-of-length-le (withPhantom f) {i = pos} (omega (arith, long f))) ∙ blocks-from-none zxe 0
+  frame-end pos h = ap (blocks zxe) (drop-of-length-le (withPhantom f) {i = pos} (omega (arith, long f))) ∙ blocks-none zxe
 
 pub whole-frames : WholeFrames
 whole-frames zxe f =

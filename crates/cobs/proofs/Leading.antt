@@ -1,11 +1,11 @@
 -- The count of leading octets that pass a test: what it counts, where it stops, and the turns of a loop that counts.
-use mathlib.Core.Path.{_≡_, refl}
-use mathlib.Core.Bool.{Bool, true, false}
+use mathlib.Core.Path.{_≡_, refl, ap}
+use mathlib.Core.Bool.{Bool, true, false, not}
 use mathlib.Core.List.{List, [], _∷_}
 use Prim.Native.Nat.{ℕ, zero, suc, _+_, _-_, _≤_, _<_}
 use native.Mathlib.Numerals.{add-one}
 use native.Mathlib.Omega.{arith}
-use borrow.Author.Tests.{eqb-true, eqb-false, ltb-true, ltb-false, not-true, not-false}
+use borrow.Author.Tests.{eqb-true, eqb-false, eq-eqb, ne-eqb, ltb-true, ltb-false, not-true, not-false}
 use lib.Dec.{ltb}
 use lib.ListN.{length, drop, getD}
 use lib.Seq.{drop-cons}
@@ -43,6 +43,16 @@ module _ (test : ℕ → Bool) where
       branch (λ k. k < suc n → k < suc (length l) → test (getD (x ∷ l) k 0) ≡ false) (test x)
       (λ e h k. stops n l (omega arith) (omega arith)) (λ e h k. e)
 
+  -- octets at the head that pass are counted, up to the limit
+  pub counted : (n m : ℕ) (l : List ℕ) → m ≤ n → m ≤ length l → ((i : ℕ) → i < m → test (getD l i 0) ≡ true) → m ≤ leading test n l
+  unfolding leading
+  counted n zero l h k t = omega arith
+  counted zero (suc m) l h k t = absurd (omega arith)
+  counted (suc n) (suc m) [] h k t = absurd (omega arith)
+  counted (suc n) (suc m) (x ∷ l) h k t =
+      let rest : m ≤ leading test n l = counted n m l (omega arith) (omega arith) (λ i j. t (suc i) (omega arith)) in
+      rw (t 0 (omega arith)) (omega (arith, rest))
+
   -- a turn of a loop: the octet passes, or it does not, or the limit is reached
   pub turn : (n m : ℕ) (l : List ℕ) (i : ℕ) → i < length l → n ≡ m + 1 → test (getD l i 0) ≡ true
       → leading test n (drop i l) ≡ leading test m (drop (i + 1) l) + 1
@@ -65,6 +75,12 @@ zeros-at n l i h = eqb-true (getD l i 0) 0 (passes isZero n l i h)
 
 pub nonzeros-at : (n : ℕ) (l : List ℕ) (i : ℕ) → i < leadingNonzeros n l → getD l i 0 ≡ 0 → ⊥
 nonzeros-at n l i h = eqb-false (getD l i 0) 0 (not-true _ (passes isNonzero n l i h))
+
+pub zeros-counted : (n m : ℕ) (l : List ℕ) → m ≤ n → m ≤ length l → ((i : ℕ) → i < m → getD l i 0 ≡ 0) → m ≤ leadingZeros n l
+zeros-counted n m l h k t = counted isZero n m l h k (λ i j. eq-eqb (getD l i 0) 0 (t i j))
+
+pub nonzeros-counted : (n m : ℕ) (l : List ℕ) → m ≤ n → m ≤ length l → ((i : ℕ) → i < m → getD l i 0 ≡ 0 → ⊥) → m ≤ leadingNonzeros n l
+nonzeros-counted n m l h k t = counted isNonzero n m l h k (λ i j. ap not (ne-eqb (getD l i 0) 0 (t i j)))
 
 pub nonzeros-end : (n : ℕ) (l : List ℕ) → leadingNonzeros n l < n → leadingNonzeros n l < length l → getD l (leadingNonzeros n l) 0 ≡ 0
 nonzeros-end n l h k = eqb-true (getD l (leadingNonzeros n l) 0) 0 (not-false _ (stops isNonzero n l h k))

@@ -7,3 +7,4 @@ pub mod Exchange
 pub mod Chosen
 pub mod Blocks
 pub mod Frame
+pub mod Shortest

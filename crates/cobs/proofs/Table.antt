@@ -8,7 +8,7 @@ use borrow.Author.Tests.{leb-true, eqb-true, le-leb, lt-leb, ne-eqb, not-false}
 use lib.Dec.{leb, eqb}
 use Rattle.cobs.specs.CodeBlocks.{Meaning, InTable, NotAgreed, NoCode, inRange, codeTable, meaning}
 use Rattle.cobs.specs.Frames.{TheTable}
-use Rattle.cobs.proofs.Tests.{branch, and-left, and-right}
+use Rattle.cobs.proofs.Tests.{branch, false-true, and-left, and-right}
 
 -- a code and a range of codes
 module _ (first last c : ℕ) where
@@ -133,6 +133,13 @@ read-row zxe c n z =
 
     on : (inRange 0xD3 0xFE c && not zxe) ≡ false → 0xD3 ≤ c → c ≤ 0xFE → zxe ≡ true
     on off h k = not-false zxe (rw (inside 0xD3 0xFE c h k) at off)
+
+-- a code that is agreed without ZXE is agreed with it
+pub row-with : {c n z : ℕ} (zxe : Bool) → Row false c n z → Row zxe c n z
+row-with zxe (plain-row k h) = plain-row k h
+row-with zxe full-row = full-row
+row-with zxe (run-row z on h k) = false-true on
+row-with zxe (pair-row k on h) = false-true on
 
 -- what follows of the three numbers
 pub record Numbers (c n z : ℕ) : Type 0 where

@@ -10,7 +10,7 @@ use lib.Seq.{drop-append-seam, drop-drop, getD-drop, getD-at}
 use Rattle.cobs.specs.CodeBlocks.{frame, withPhantom, toLine, Block, AllAllowed, zerosAfter, decodedOctets, lineOctets}
 use Rattle.cobs.proofs.Tests.{branch, decide}
 use Rattle.cobs.proofs.Table.{Row, read-row, numbers}
-use Rattle.cobs.proofs.Blocks.{decoded-nil, decoded-cons, on-line-nil, on-line-cons}
+use Rattle.cobs.proofs.Blocks.{nonzero-first, decoded-nil, decoded-cons, on-line-nil, on-line-cons}
 use Rattle.link.specs.Agreed.{Agreed, agreed, mostDecoded}
 use Rattle.link.specs.Receiver.{ReceiverEnd, lastBlock, work, steps1To4, receive}
 use Rattle.link.specs.Runs.{received}
@@ -42,11 +42,6 @@ zeros-first : (z i : ℕ) (ys : List ℕ) → i < z → getD (replicate z 0 ++ y
 zeros-first zero i ys h = absurd (omega arith)
 zeros-first (suc z) zero ys h = refl
 zeros-first (suc z) (suc i) ys h = zeros-first z i ys (omega arith)
-
-nonzero-first : (xs ys : List ℕ) (i : ℕ) → (List·Memᴰ 0 xs → ⊥) → i < length xs → getD (xs ++ ys) i 0 ≡ 0 → ⊥
-nonzero-first [] ys i f h e = absurd (omega arith)
-nonzero-first (x ∷ xs) ys zero f h e = f (List·Memᴰ·head (sym e))
-nonzero-first (x ∷ xs) ys (suc i) f h e = nonzero-first xs ys i (λ m. f (List·Memᴰ·tail m)) (omega arith) e
 
 -- ---- along D
 

@@ -1,27 +1,31 @@
--- Demand 2, over any list of calls: lane by lane, what is loaded is what is closed and what the lane still holds; and so nothing is lost.
-use mathlib.Core.Path.{_≡_, refl, sym, ap, _∙_}
+-- Demand 2, over any list of calls: lane by lane, what is loaded is what is closed and what the lane still holds; and so nothing is lost. And
+-- of one packet, that it is delivered and which octets go out.
+use mathlib.Core.Path.{_≡_, refl, sym, ap, subst, _∙_}
 use mathlib.Core.Bool.{Bool, true, false, cond, _&&_}
 use mathlib.Core.List.{List, [], _∷_, _++_, map, append-nil}
 use mathlib.Core.Option.{Option, none, some}
 use Prim.Native.Nat.{ℕ, zero, suc, _+_, _/_, _≤_}
+use native.Mathlib.Numerals.{add-one}
 use native.Mathlib.Omega.{arith}
 use borrow.Author.Tests.{le-ltb, lt-ltb, ne-eqb}
-use lib.ListN.{length, replicate}
-use Rattle.cobs.specs.CodeBlocks.{frame}
+use lib.ListN.{length, take, replicate}
+use lib.Seq.{take-nil, take-append-seam}
+use Rattle.cobs.specs.CodeBlocks.{frame, uninterrupted}
 use Rattle.link.specs.Agreed.{Agreed, agreed, leastPacket, largestFrame}
 use Rattle.link.specs.Answers.{idle}
-use Rattle.link.specs.Sender.{Lane, low, high, LaneState, Out, closes, breaksOff, sends, sendsNothing, refuses, laneArea, outAnswer, next, putFrame, load}
+use Rattle.link.specs.Sender.{Lane, low, high, LaneState, Out, closes, breaksOff, sends, sendsNothing, refuses, laneState, laneArea, outAnswer, loaded, Load, next, putFrame, load}
 use Rattle.link.specs.SenderParts.{SenderReady}
 use Rattle.link.specs.Receiver.{Receive}
 use Rattle.link.specs.Runs.{Station, Written, SenderCall, loading, nextOctet, freshStation, lanePacket, lanesAfter, sameLane, isDone, loadedBy, afterLoad, afterNext, run, loadedInto, writes, written, writtenOctets, sentBy, atTrue, receives, packetIn, present, packetsIn, closedBy, closedPackets}
-use Rattle.link.specs.Progress.{BothEmpty, callsToEmpty}
+use Rattle.link.specs.Progress.{BothEmpty, callsToEmpty, BeginsNext, nextCalls, SendsOf, PacketUninterrupted}
 use Rattle.link.specs.Demands.{freshReceiver, LongEnough, NothingLoadedIsLost, Delivery}
 use Rattle.link.proofs.Follow.{frame-long}
 use Rattle.link.proofs.SenderBounds as bounds
 use Rattle.link.proofs.Sound.{Stock, Sound, sound-fresh, sound-load, sound-next, sound-run}
 use Rattle.link.proofs.UnderWay.{run-append}
 use Rattle.link.proofs.Demands.{each-packet, sound-line}
-use Rattle.link.proofs.Progress.{ready-run, idle-if-empty, emptied}
+use Rattle.link.proofs.Progress.{ready-put, ready-run, idle-if-empty, emptied}
+use Rattle.link.proofs.Uninterrupted.{sent-uninterrupted}
 
 -- the packet of a lane, as a list of one or none
 abbrev asList : Option (List ℕ) → List (List ℕ)
@@ -118,6 +122,14 @@ closings-at-true (b ∷ bs) [] = refl
 closings-at-true (true ∷ bs) (x ∷ es) = ap (λ (l : List (Option (List ℕ))). closing x ∷ l) (closings-at-true bs es)
 closings-at-true (false ∷ bs) (x ∷ es) = closings-at-true bs es
 
+next-calls : (n : ℕ) → nextCalls (replicate n nextOctet) ≡ n
+unfolding nextCalls
+next-calls zero = refl
+next-calls (suc n) = rw (next-calls n) (add-one n)
+
+ready-fresh : (t : ℕ) (al ah : List ℕ) → largestFrame (agreed t) ≤ length al → largestFrame (agreed t) ≤ length ah → SenderReady (freshStation t al ah .end)
+ready-fresh t al ah h k = record { low = h; high = k; bounds = bounds.in-bounds (agreed t) _ (sound-fresh t al ah .in·bounds) }
+
 module _ (t : ℕ) (al ah first second : List ℕ) (long : LongEnough t al ah first second) where
   abbrev fresh : Station
   fresh = freshStation t al ah
@@ -125,8 +137,8 @@ module _ (t : ℕ) (al ah first second : List ℕ) (long : LongEnough t al ah fi
   abbrev calls·for : List SenderCall → List Receive
   calls·for cs = receives (freshReceiver t first second) (writtenOctets (written fresh cs))
 
-  ready-fresh : SenderReady (fresh .end)
-  ready-fresh = record { low = long .low; high = long .high; bounds = bounds.in-bounds (agreed t) _ (sound-fresh t al ah .in·bounds) }
+  ready : SenderReady (fresh .end)
+  ready = ready-fresh t al ah (long .low) (long .high)
 
   -- the packets at a lane's octets are those that its octets close
   told : (l : Lane) (cs : List SenderCall) → packetsIn (atTrue (sentBy l (written fresh cs)) (calls·for cs)) ≡ closedOf l (written fresh cs)
@@ -142,10 +154,10 @@ module _ (t : ℕ) (al ah first second : List ℕ) (long : LongEnough t al ah fi
     all = cs ++ replicate n nextOctet
 
     empty : BothEmpty (run fresh all .end .state)
-    empty = rw (run-append fresh cs (replicate n nextOctet)) (emptied (run fresh cs) (ready-run fresh cs ready-fresh) n enough)
+    empty = rw (run-append fresh cs (replicate n nextOctet)) (emptied (run fresh cs) (ready-run fresh cs ready) n enough)
 
     ends-idle : outAnswer (next (run fresh all .end) .out) ≡ idle
-    ends-idle = idle-if-empty .always (run fresh all .end) (ready-run fresh all ready-fresh) empty
+    ends-idle = idle-if-empty .always (run fresh all .end) (ready-run fresh all ready) empty
 
     none-left : (l : Lane) → lanePacket l (run fresh all .lanes) ≡ none
     none-left low = none-held (agreed t) _ _ _ (sound-run (agreed t) fresh all (sound-fresh t al ah) .stock·low) (empty .low)
@@ -255,6 +267,51 @@ module _ (t : ℕ) (al ah : List ℕ) (h : largestFrame (agreed t) ≤ length al
       let n = length (frame (agreed t .check) p) in
       let some : n ≡ 0 → ⊥ = (λ e. omega (arith, frame-long (agreed t) p)) in
       rw (takes high, ne-eqb n 0 some) (omega arith)
+
+  empty-lane : (l : Lane) → laneState l (freshStation t al ah .end .state) .length ≡ 0
+  empty-lane low = refl
+  empty-lane high = refl
+
+  -- the sender with it
+  module _ (l : Lane) where
+    abbrev holds : Station
+    holds = loadedBy (putFrame (agreed t) l p (freshStation t al ah .end .state) (laneArea l (freshStation t al ah .end))) l p (freshStation t al ah)
+
+  not-empty : loaded (record { length = length (frame (agreed t .check) p); position = 0 }) ≡ true
+  not-empty = lt-ltb 0 (length (frame (agreed t .check) p)) (omega (arith, frame-long (agreed t) p))
+
+  begins-next : (l : Lane) → BeginsNext l (holds l .end .state)
+  unfolding putFrame
+  begins-next low =
+      record { free = refl; start = refl; holds = not-empty; highEmpty = λ _. refl; notSuspended = λ _. refl }
+  begins-next high =
+      record { free = refl; start = refl; holds = not-empty; highEmpty = bounds.low-high; notSuspended = bounds.low-high }
+
+  frame-there : (l : Lane) → take (laneState l (holds l .end .state) .length) (laneArea l (holds l .end)) ≡ frame (agreed t .check) p
+  unfolding putFrame
+  frame-there low = take-append-seam (frame (agreed t .check) p) _
+  frame-there high = take-append-seam (frame (agreed t .check) p) _
+
+  settings-there : (l : Lane) → holds l .end .state .settings ≡ t
+  unfolding putFrame
+  settings-there low = refl
+  settings-there high = refl
+
+  sends-it : (l : Lane) (n : ℕ) → SendsOf l (uninterrupted (agreed t .zxe) (frame (agreed t .check) p)) n (written (freshStation t al ah) (loading l p ∷ replicate n nextOctet))
+  unfolding written afterLoad loadedInto nextCalls
+  sends-it l zero = take-nil (length (uninterrupted (agreed t .zxe) (frame (agreed t .check) p)) + 1)
+  sends-it l (suc n) =
+      let calls : List SenderCall = replicate n nextOctet in
+      let Sent : Station → List ℕ → Type 0 = λ w octets. SendsOf l octets (suc n) (written w (nextOctet ∷ calls)) in
+      let r = ready-put (freshStation t al ah) (ready-fresh t al ah h k) l p (record { free = empty-lane l; big = big; small = small }) in
+      let is : uninterrupted (agreed (holds l .end .state .settings) .zxe) (take (laneState l (holds l .end .state) .length) (laneArea l (holds l .end)))
+      ≡ uninterrupted (agreed t .zxe) (frame (agreed t .check) p) = rw (settings-there l, frame-there l) in
+      subst (λ (a : Load). Sent (loadedBy a l p (freshStation t al ah)) (uninterrupted (agreed t .zxe) (frame (agreed t .check) p))) (sym (takes l))
+      (subst (Sent (holds l)) is
+      (rw (next-calls n, add-one n) at (sent-uninterrupted l (holds l) r (begins-next l) calls (λ _ _. loads-only high (afterNext (holds l)) [] n))))
+
+pub packet-uninterrupted : PacketUninterrupted
+packet-uninterrupted t al ah h k l p big small n = sends-it t al ah h k p big small l n
 
 pub delivery : (settings : ℕ) → Delivery settings
 delivery t al ah first second long l p big small =

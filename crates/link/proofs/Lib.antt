@@ -17,6 +17,7 @@ pub mod UnderWay
 pub mod Demands
 pub mod AnyBlocks
 pub mod Progress
+pub mod Uninterrupted
 pub mod Urgent
 pub mod Delivery
 pub mod InBounds

@@ -8,6 +8,7 @@ use borrow.Author.Tests.{le-ltb, lt-ltb, eq-eqb, ne-eqb, ltb-true, ltb-false}
 use lib.Dec.{ltb}
 use lib.ListN.{length, replicate, drop, length-append, length-drop}
 use Rattle.cobs.specs.CodeBlocks.{frame, choice}
+use Rattle.cobs.specs.declared.Choice.{Choice}
 use Rattle.cobs.proofs.Tests.{branch, decide, and-right}
 use Rattle.cobs.proofs.Frame.{longest, longest-frame, longest-part, block-cost}
 use Rattle.link.specs.Agreed.{Agreed, agreed, largestFrame}
@@ -155,12 +156,18 @@ module _ (g : Agreed) (q : LaneState) (a : List ℕ) (n z : ℕ) (fits : q .leng
   abbrev d : List ℕ
   d = laneD q a
 
-  left : length (drop (q .position) d) ≡ q .length + 1 - q .position
+  abbrev r : List ℕ
+  r = drop (q .position) d
+
+  abbrev c : Choice
+  c = choice (g .zxe) r
+
+  left : length r ≡ q .length + 1 - q .position
   left = length-drop (q .position) d ∙ ap (λ (i : ℕ). i - q .position) (bounds.data-long g q a fits)
 
-  whole : n ≡ 0 → rest (q .length) (q .position) n z ≡ longest (length (drop (q .position) d))
+  whole : n ≡ 0 → rest (q .length) (q .position) n z ≡ longest (length r)
   whole e =
-      let at : q .length + 1 - (q .position + (n + z)) ≡ length (drop (q .position) d) = omega (arith, even e, left) in
+      let at : q .length + 1 - (q .position + (n + z)) ≡ length r = omega (arith, even e, left) in
       omega (arith, ap longest at)
 
   -- each octet of D leaves less to send
@@ -173,13 +180,9 @@ module _ (g : Agreed) (q : LaneState) (a : List ℕ) (n z : ℕ) (fits : q .leng
       let at : q .length + 1 - (q .position + 1 + (n - 1 + z)) ≡ q .length + 1 - (q .position + (n + z)) = omega arith in
       omega (arith, ap longest at)
   shrinks x pos n′ z′ h (covers e f) =
-      let r = drop (q .position) d in
-      let c = choice (g .zxe) r in
       let at : q .length + 1 - (q .position + c .zeros + (n + z)) ≡ length r - (c .nonzeros + c .zeros) = omega (arith, even e, left) in
       omega (arith, ap longest at, whole e, block-cost (g .zxe) r c (bounds.stands g q a fits h))
   shrinks x pos n′ z′ h (opens e f) =
-      let r = drop (q .position) d in
-      let c = choice (g .zxe) r in
       let at : q .length + 1 - (q .position + (c .nonzeros + c .zeros)) ≡ length r - (c .nonzeros + c .zeros) = omega (arith, left) in
       omega (arith, ap longest at, whole e, block-cost (g .zxe) r c (bounds.stands g q a fits h))
 

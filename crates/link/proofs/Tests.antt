@@ -2,9 +2,9 @@
 use mathlib.Core.Path.{_≡_, refl}
 use mathlib.Core.Bool.{Bool, true, false, cond, _&&_, _||_}
 use Prim.Native.Nat.{ℕ, _≤_}
-use native.Mathlib.Omega.{arith}
 use borrow.Author.Tests.{ltb-false, le-ltb}
 use lib.Dec.{ltb}
+pub use Rattle.cobs.proofs.Tests.{true-false, false-true}
 
 -- a choice whose test is known
 pub if-so {ℓ} : {A : Type ℓ} (b : Bool) (x y : A) → b ≡ true → cond b x y ≡ x
@@ -12,12 +12,6 @@ if-so b x y e = rw e
 
 pub if-not {ℓ} : {A : Type ℓ} (b : Bool) (x y : A) → b ≡ false → cond b x y ≡ y
 if-not b x y e = rw e
-
-pub true-false : {Q : Type 0} → true ≡ false → Q
-true-false e = absurd (let z : _≡_ {A = ℕ} 0 1 = cc in omega arith)
-
-pub false-true : {Q : Type 0} → false ≡ true → Q
-false-true e = absurd (let z : _≡_ {A = ℕ} 0 1 = cc in omega arith)
 
 -- tests joined
 pub and-intro : (a b : Bool) → a ≡ true → b ≡ true → (a && b) ≡ true

@@ -16,7 +16,7 @@ use Rattle.link.specs.SenderParts.{SenderReady}
 use Rattle.link.specs.Runs.{Station, Written, SenderCall, loading, nextOctet, writes, written, sentBy, isOf, loadedBy, afterLoad, afterNext}
 use Rattle.link.specs.Progress.{brokenOffAfter, OnlyHighUntilD1, UrgentFirst}
 use Rattle.link.proofs.Tests.{if-so, if-not, true-false, false-true}
-use Rattle.link.proofs.Way.{Way, ends, cuts, warns, goes, sender, Turn, cut·due, idles, resumes·low, begins·high, begins·low, high·on, low·on, by-next}
+use Rattle.link.proofs.Way.{Way, ends, cuts, warns, goes, sender, Turn, cut·due, idles, resumes·low, begins·high, begins·low, high·on, low·on, line-free, not-high, by-next}
 use Rattle.link.proofs.Follow.{frame-long}
 use Rattle.link.proofs.SenderBounds as bounds
 use Rattle.link.proofs.Sound.{station, Sound, by-load, sound-fresh, sound-load, sound-next}
@@ -29,9 +29,6 @@ way-high g s d st (ends over) = refl
 way-high g s d st (cuts short e pre urgent f) = bounds.low-high e
 way-high g s d st (warns short e pre urgent f) = bounds.low-high e
 way-high g s d st (goes x pos n z short v free) = refl
-
-line-free : {Q : Type 0} (l : Lane) → sending l ≡ noLane → Q
-line-free l e = absurd (let z : _≡_ {A = ℕ} 0 1 = cc in omega arith)
 
 module _ (g : Agreed) (ql qh : LaneState) (n z t : ℕ) (al ah : List ℕ) where
   turn-free : (o : OnLine) (u c : Bool) (st : Step) → Turn g ql qh n z t al ah o u c st → bounds.Bounds g (sender ql qh n z o u c t) → o ≡ noLane → 0 < qh .length
@@ -46,9 +43,6 @@ module _ (g : Agreed) (ql qh : LaneState) (n z t : ℕ) (al ah : List ℕ) where
   turn-free o u c st (low·on w) b e h = line-free low e
 
 -- ---- with low on the line
-
-not-high : {Q : Type 0} → sending high ≡ sending low → Q
-not-high e = absurd (let z : _≡_ {A = ℕ} 0 1 = cc in omega arith)
 
 module _ (g : Agreed) (ql qh : LaneState) (n z t : ℕ) (al ah : List ℕ) (pre : g .pre ≡ true) (h : 0 < qh .length) (short : ql .position ≤ ql .length) where
   way-gives : (u : Bool) (d : List ℕ) (st : Step) → Way g low (sender ql qh n z (sending low) u false t) d st

@@ -130,6 +130,13 @@ module _ (g : Agreed) (ql qh : LaneState) (n z t : ℕ) (al ah : List ℕ) where
       branch (Turn noLane u false) (not (loaded ql)) (λ f. idles none·high (omega (arith, ltb-false 0 (ql .length) (not-true (loaded ql) f))))
       (λ f. low-turn u none·high (ltb-true 0 (ql .length) (not-false (loaded ql) f))))
 
+-- no two of the lines are the same
+pub line-free : {Q : Type 0} (l : Lane) → sending l ≡ noLane → Q
+line-free l e = absurd (let z : _≡_ {A = ℕ} 0 1 = cc in omega arith)
+
+pub not-high : {Q : Type 0} → sending high ≡ sending low → Q
+not-high e = absurd (let z : _≡_ {A = ℕ} 0 1 = cc in omega arith)
+
 -- what holds of a refused call and of every such step holds of next octet
 pub by-next : (g : Agreed) (e : SenderEnd) → agreed (e .state .settings) ≡ g → (P : Step → Type 0) → ((n : ℕ) → P (record { out = refuses n; state = e .state }))
     → (let s = e .state in

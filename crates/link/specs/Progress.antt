@@ -1,18 +1,19 @@
--- What follows of the sender's calls by themselves (docs/DEMANDS.md): it is never idle with work to do, both lanes get empty in time, and
--- urgent packets go first.
+-- What follows of the sender's calls by themselves (docs/DEMANDS.md): it is never idle with work to do, a frame goes out as its blocks, both
+-- lanes get empty in time, and urgent packets go first.
 use mathlib.Core.Bool.{Bool, true, false, _&&_, _||_}
-use mathlib.Core.List.{List, [], _∷_, List·Memᴰ}
+use mathlib.Core.List.{List, [], _∷_, _++_, map, List·Memᴰ}
 use mathlib.Core.Logic.{_⊎_}
 use mathlib.Core.Path.{_≡_}
 use Prim.Native.Nat.{ℕ, _+_, _/_, _≤_}
 use lib.Dec.{ltb, eqb}
-use lib.ListN.{replicate}
+use lib.ListN.{length, take, replicate}
 use Rattle.fcs.specs.Notation.{if_then_else_}
-use Rattle.link.specs.Agreed.{agreed}
+use Rattle.cobs.specs.CodeBlocks.{frame, uninterrupted}
+use Rattle.link.specs.Agreed.{agreed, leastPacket, largestFrame}
 use Rattle.link.specs.Answers.{done, idle}
-use Rattle.link.specs.Sender.{low, high, noLane, sending, Sender, SenderEnd, Out, closes, breaksOff, sends, sendsNothing, refuses, outAnswer, loaded, load, next}
+use Rattle.link.specs.Sender.{Lane, low, high, noLane, sending, Sender, SenderEnd, Out, closes, breaksOff, sends, sendsNothing, refuses, outAnswer, laneState, laneArea, loaded, load, next}
 use Rattle.link.specs.SenderParts.{SenderReady}
-use Rattle.link.specs.Runs.{SenderCall, nextOctet, Station, freshStation, afterLoad, run, Written, written, isOf, sentBy}
+use Rattle.link.specs.Runs.{SenderCall, loading, nextOctet, Station, freshStation, afterLoad, afterNext, run, loadedInto, Written, written, isOf, sentBy}
 
 -- ---- never idle with work to do
 
@@ -24,6 +25,47 @@ pub record BothEmpty (s : Sender) : Type 0 where
 pub record IdleIfEmpty : Type 0 where
   pub only : (e : SenderEnd) → SenderReady e → outAnswer (next e .out) ≡ idle → BothEmpty (e .state)
   pub always : (e : SenderEnd) → SenderReady e → BothEmpty (e .state) → outAnswer (next e .out) ≡ idle
+
+-- ---- the octets of a frame that nothing interrupts
+
+-- The lane's frame is next, from its beginning: no lane is on the line, and where it is low's, high is empty and low not suspended.
+pub record BeginsNext (l : Lane) (s : Sender) : Type 0 where
+  pub free : s .on ≡ noLane
+  pub start : laneState l s .position ≡ 0
+  pub holds : loaded (laneState l s) ≡ true
+  pub highEmpty : l ≡ low → s .high .length ≡ 0
+  pub notSuspended : l ≡ low → s .suspended ≡ false
+
+-- how many calls of a list are of next octet
+unfoldable pub nextCalls : List SenderCall → ℕ
+nextCalls [] = 0
+nextCalls (loading l p ∷ cs) = nextCalls cs
+nextCalls (nextOctet ∷ cs) = nextCalls cs + 1
+
+-- What n calls of next octet send: these octets, each for the lane, and then the flag that closes its frame, as far as n goes. What comes
+-- behind the flag is not looked at.
+abbrev pub SendsOf : Lane → List ℕ → ℕ → List Written → Type 0
+SendsOf l octets n es = take (length octets + 1) (map (λ (e : Written). e .out) es) ≡ take n (map (sends l) octets ++ (closes l ∷ []))
+
+-- From any state in bounds, with areas long enough, and for any list of calls: next octet sends of the frame what `cobs` calls uninterrupted. A
+-- low frame could be broken off, with PRE, if a load into the high lane were Done meanwhile; so then there is none. (No list of blocks has
+-- fewer octets: `Shortest` of `cobs`.)
+abbrev pub SentUninterrupted : Type 0
+SentUninterrupted =
+    (l : Lane) (w : Station) → SenderReady (w .end) → BeginsNext l (w .end .state) → (calls : List SenderCall)
+    → (let s = w .end .state in
+    let g = agreed (s .settings) in
+    (l ≡ low → g .pre ≡ true → loadedInto high (afterNext w) calls ≡ [])
+    → (let octets = uninterrupted (g .zxe) (take (laneState l s .length) (laneArea l (w .end))) in
+    SendsOf l octets (nextCalls calls + 1) (written w (nextOctet ∷ calls))))
+
+-- So a packet, loaded into either lane of a fresh sender.
+abbrev pub PacketUninterrupted : Type 0
+PacketUninterrupted =
+    (settings : ℕ) (lowArea highArea : List ℕ) → (let g = agreed settings in
+    largestFrame g ≤ length lowArea → largestFrame g ≤ length highArea → (l : Lane) (p : List ℕ) → leastPacket ≤ length p → length p ≤ g .limit → (n : ℕ)
+    → (let octets = uninterrupted (g .zxe) (frame (g .check) p) in
+    SendsOf l octets n (written (freshStation settings lowArea highArea) (loading l p ∷ replicate n nextOctet))))
 
 -- ---- both lanes get empty
 

@@ -56,17 +56,17 @@ part-count-zeros-end c = search needs
 count-zeros-requires-2 : tie.Need-count-zeros-requires-2
 count-zeros-requires-2 c κs = search needs
 
--- with ZXE on, and k at most 30
+-- with ZXE on, and k small enough
 on : (c : tie.Then4) → c .before .before .before .before .before .args .zxe ≡ true
-on c = and-left (c .before .before .before .before .before .args .zxe) (leb (c .before .before .count-nonzeros .result) 30) (c .if4 .taken)
+on c = and-left (c .before .before .before .before .before .args .zxe) _ (c .if4 .taken)
 
 few : (c : tie.Then4) → leb (c .before .before .count-nonzeros .result) 30 ≡ true
-few c = and-right (c .before .before .before .before .before .args .zxe) (leb (c .before .before .count-nonzeros .result) 30) (c .if4 .taken)
+few c = and-right (c .before .before .before .before .before .args .zxe) _ (c .if4 .taken)
 
 add-code-2 : tie.Need-add-code-2
 add-code-2 c =
     let t = c .before .before .before in
-    record { fits = omega (arith, leb-true (t .before .before .count-nonzeros .result) 30 (few t)) }
+    record { fits = omega (arith, leb-true (t .before .before .count-nonzeros .result) _ (few t)) }
 
 -- the part of the frame behind them, with the phantom, is the rest of D there
 behind : (c : tie.After-count-nonzeros)
