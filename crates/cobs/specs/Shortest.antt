@@ -26,7 +26,7 @@ ZxeNeverLonger = (f : List ℕ) → length (uninterrupted true f) ≤ length (un
 
 -- ---- computed
 
--- how many octets are sent of a frame without ZXE, and with it
+-- How many octets are sent of a frame without ZXE, and with it. The phantom is one zero more than the frame has.
 abbrev pub octetsSent : List ℕ → List ℕ
 octetsSent f = length (uninterrupted false f) ∷ length (uninterrupted true f) ∷ []
 
@@ -42,7 +42,7 @@ pub record WorkedLengths : Type 0 where
   pub twoAt31 : octetsSent (replicate 31 1 ++ 0 ∷ 0 ∷ []) ≡ 34 ∷ 33 ∷ []
   pub full : octetsSent (replicate 207 1) ≡ 209 ∷ 209 ∷ []
 
--- With ZXE others can be as short: E1 01, D4 is sent of 01 and five zeros and the phantom, and 02 01, D5 encodes them too.
+-- With ZXE others can be as short: E1 01, D4 is sent of 01 and five zeros, and 02 01, D5 encodes that frame too.
 abbrev pub another : List Block
 another = record { code = 0x02; dataOctets = 1 ∷ [] } ∷ record { code = 0xD5; dataOctets = [] } ∷ []
 

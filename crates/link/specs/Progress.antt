@@ -47,9 +47,9 @@ nextCalls (nextOctet ∷ cs) = nextCalls cs + 1
 abbrev pub SendsOf : Lane → List ℕ → ℕ → List Written → Type 0
 SendsOf l octets n es = take (length octets + 1) (map (λ (e : Written). e .out) es) ≡ take n (map (sends l) octets ++ (closes l ∷ []))
 
--- From any state in bounds, with areas long enough, and for any list of calls: next octet sends of the frame what `cobs` calls uninterrupted. A
--- low frame could be broken off, with PRE, if a load into the high lane were Done meanwhile; so then there is none. (No list of blocks has
--- fewer octets: `Shortest` of `cobs`.)
+-- From any state in bounds, with areas long enough, and for any list of calls: next octet sends of the frame what `cobs` calls uninterrupted.
+-- Only a low frame can be broken off, with PRE; of that it is asked that none of the calls is a load into the high lane that is Done. (No list
+-- of blocks has fewer octets: `Shortest` of `cobs`.)
 abbrev pub SentUninterrupted : Type 0
 SentUninterrupted =
     (l : Lane) (w : Station) → SenderReady (w .end) → BeginsNext l (w .end .state) → (calls : List SenderCall)
@@ -59,7 +59,7 @@ SentUninterrupted =
     → (let octets = uninterrupted (g .zxe) (take (laneState l s .length) (laneArea l (w .end))) in
     SendsOf l octets (nextCalls calls + 1) (written w (nextOctet ∷ calls))))
 
--- So a packet, loaded into either lane of a fresh sender.
+-- So a packet, loaded into either lane of a fresh sender, with nothing loaded after it.
 abbrev pub PacketUninterrupted : Type 0
 PacketUninterrupted =
     (settings : ℕ) (lowArea highArea : List ℕ) → (let g = agreed settings in
