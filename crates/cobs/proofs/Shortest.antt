@@ -11,7 +11,7 @@ use lib.Dec.{leb, eqb, ltb}
 use lib.ListN.{length, drop, getD, replicate, length-append, length-drop, length-replicate, getD-replicate, List·getD-append}
 use lib.Seq.{take-append-le, take-append-seam, drop-at, drop-drop, getD-drop, getD-append-add}
 use Rattle.cobs.specs.CodeBlocks.{withPhantom, inRange, codeTable, meaning, toLine, Choice, leading, leadingZeros, leadingNonzeros, isZero, isNonzero, choice, Block, zerosIn, zerosAfter, Allowed, AllAllowed, decodedOctets, lineOctets, coveredBy, blockAt, blocksFrom, blocks, uninterrupted}
-use Rattle.cobs.specs.Shortest.{EncodedBy, Shortest, OneListWithoutZxe, ZxeNeverLonger, WorkedLengths, AnotherWithZxe}
+use Rattle.cobs.specs.Shortest.{EncodedBy, Shortest, CoversMost, OneListWithoutZxe, ZxeNeverLonger, WorkedLengths, AnotherWithZxe}
 use Rattle.cobs.proofs.Tests.{branch, decide, true-false, false-true, and-right}
 use Rattle.cobs.proofs.Leading.{EndsInZero, at-most, zeros-at, nonzeros-at, zeros-counted, nonzeros-counted}
 use Rattle.cobs.proofs.Phantom.{ends, ends-drop}
@@ -277,6 +277,17 @@ shortest zxe f bs s =
     (by-decoded zxe (λ bs d. sent zxe d ≤ length (lineOctets bs)) (omega (arith, sent-none zxe))
     (λ b bs d e f _ ih. omega (arith, no-better zxe d (as-chosen b) e f, line-length b bs))
     bs (s .allowed) (encoded-end s))
+
+-- no list begins with a block that covers more than the chosen one
+First : Bool → List Block → List ℕ → Type 0
+First zxe [] d = Unit {0}
+First zxe (b ∷ bs) d = coveredBy (as-chosen b) ≤ coveredBy (choice zxe d)
+
+pub covers-most : CoversMost
+unfolding First
+covers-most zxe f b bs s =
+    rw (← (s .decodes))
+    (by-decoded zxe (First zxe) tt (λ b bs d e f _ _. omega (arith, as-many-zeros zxe d (as-chosen b) f)) (b ∷ bs) (s .allowed) (encoded-end s))
 
 -- ---- without ZXE
 

@@ -2,9 +2,9 @@
 use mathlib.Core.Bool.{Bool, true, false}
 use mathlib.Core.List.{List, [], _∷_, _++_}
 use mathlib.Core.Path.{_≡_}
-use Prim.Native.Nat.{ℕ, _≤_}
+use Prim.Native.Nat.{ℕ, _+_, _≤_}
 use lib.ListN.{length, replicate}
-use Rattle.cobs.specs.CodeBlocks.{withPhantom, Block, AllAllowed, decodedOctets, lineOctets, blocks, uninterrupted}
+use Rattle.cobs.specs.CodeBlocks.{withPhantom, choice, Block, zerosAfter, AllAllowed, decodedOctets, lineOctets, coveredBy, blocks, uninterrupted}
 
 -- The blocks bs encode the frame f: the table allows them under the setting, and they decode to D, the phantom too. (The sender's do:
 -- `WholeFrame` in Frames.antt.)
@@ -15,6 +15,12 @@ pub record EncodedBy (zxe : Bool) (f : List ℕ) (bs : List Block) : Type 0 wher
 -- Whichever blocks encode a frame, their octets, codes and data, are as many as what is sent of it uninterrupted, or more.
 abbrev pub Shortest : Type 0
 Shortest = (zxe : Bool) (f : List ℕ) (bs : List Block) → EncodedBy zxe f bs → length (uninterrupted zxe f) ≤ length (lineOctets bs)
+
+-- Of the blocks with which a list that encodes a frame can begin, the chosen one covers the most octets of D. (So it is at every place: each
+-- rest of a D is the D of a frame.) That leaves one choice, since what a block covers tells its code.
+abbrev pub CoversMost : Type 0
+CoversMost = (zxe : Bool) (f : List ℕ) (b : Block) (bs : List Block) → EncodedBy zxe f (b ∷ bs)
+    → length (b .dataOctets) + zerosAfter b ≤ coveredBy (choice zxe (withPhantom f))
 
 -- Without ZXE none but the sender's encode it.
 abbrev pub OneListWithoutZxe : Type 0

@@ -1,7 +1,7 @@
--- A frame that nothing interrupts: the calls of next octet send its blocks, octet by octet, and the flag.
+-- A frame that nothing interrupts: the calls of next octet send its blocks, octet by octet, and the flag; so they do from any place of it.
 use mathlib.Core.Path.{_≡_, refl, sym, ap, subst, _∙_}
 use mathlib.Core.Bool.{Bool, true, false, cond, _&&_}
-use mathlib.Core.List.{List, [], _∷_, _++_, map}
+use mathlib.Core.List.{List, [], _∷_}
 use Prim.Native.Nat.{ℕ, suc, _+_, _-_, _≤_, _<_}
 use native.Mathlib.Numerals.{add-one}
 use native.Mathlib.Omega.{arith}
@@ -16,7 +16,7 @@ use Rattle.link.specs.Answers.{refused}
 use Rattle.link.specs.Sender.{Lane, low, high, OnLine, noLane, sending, LaneState, Sender, SenderEnd, Load, Step, Out, closes, sends, laneState, laneArea, laneD, withLane, withBlock, withLine, putFrame}
 use Rattle.link.specs.SenderParts.{SenderReady}
 use Rattle.link.specs.Runs.{SenderCall, loading, nextOctet, Station, sameLane, isDone, loadedBy, afterStep, afterLoad, afterNext, loadedInto, writes, written}
-use Rattle.link.specs.Progress.{nextCalls, SendsOf, SentUninterrupted}
+use Rattle.link.specs.Progress.{nextCalls, SendsOf, SentUninterrupted, stillToSend, RestUninterrupted}
 use Rattle.link.proofs.Tests.{true-false}
 use Rattle.link.proofs.Way.{Advance, last, more, covers, opens, Way, ends, cuts, warns, goes, sender, Turn, cut·due, idles, resumes·low, begins·high, begins·low, high·on, low·on, line-free, not-high}
 use Rattle.link.proofs.SenderBounds as bounds
@@ -28,24 +28,23 @@ module _ (zxe : Bool) (f : List ℕ) where
   abbrev d : List ℕ
   d = withPhantom f
 
-  -- at a position of D, with n data octets and z zeros of a block to come
-  toSend : (pos n z : ℕ) → List ℕ
-  toSend pos n z = map toLine (take n (drop pos d)) ++ lineOctets (blocks zxe (drop (pos + (n + z)) d))
+  abbrev toSend : (pos n z : ℕ) → List ℕ
+  toSend = stillToSend zxe d
 
   -- without data, the blocks from a place on
   no-data : (pos n z i : ℕ) → n ≡ 0 → pos + z ≡ i → toSend pos n z ≡ lineOctets (blocks zxe (drop i d))
-  unfolding toSend
+  unfolding stillToSend
   no-data pos n z i e at = let from : pos + (0 + z) ≡ i = omega arith in rw (e, from)
 
   data-first : (pos n z : ℕ) → pos ≤ length f → toSend pos (suc n) z ≡ toLine (getD d pos 0) ∷ toSend (pos + 1) n z
-  unfolding toSend
+  unfolding stillToSend
   data-first pos n z h =
       let at : pos + (suc n + z) ≡ suc pos + (n + z) = omega arith in
       rw (drop-cons d pos 0 (omega (arith, length-append f (0 ∷ []))), add-one pos, at)
 
   code-first : (pos n z : ℕ) → pos ≤ length f → n ≡ 0 → z ≡ 0
       → (let c = choice zxe (drop pos d) in toSend pos n z ≡ toLine (c .code) ∷ toSend pos (c .nonzeros) (c .zeros))
-  unfolding toSend
+  unfolding stillToSend
   code-first pos n z h e k = no-data pos n z pos e (omega arith) ∙ (ap lineOctets (frame-next zxe f pos h) ∙ on-line-cons _ _)
 
   -- the octet that is sent is the first of them, and the others are to be sent behind it
@@ -104,13 +103,13 @@ module _ (g : Agreed) (ql qh : LaneState) (n z t : ℕ) (al ah : List ℕ) where
 -- ---- one call
 
 -- the state after an octet of D: the lane moved
-record Moved (l : Lane) (q : LaneState) (s t : Sender) : Type 0 where
+record LaneMoved (l : Lane) (q : LaneState) (s t : Sender) : Type 0 where
   lane : laneState l t ≡ q
   on : t .on ≡ s .on
   cut : t .cut ≡ s .cut
   urgent : l ≡ low → t .high ≡ s .high
 
-moved : (l : Lane) (q : LaneState) (n z : ℕ) (s : Sender) → Moved l q s (withBlock n z (withLane l q s))
+moved : (l : Lane) (q : LaneState) (n z : ℕ) (s : Sender) → LaneMoved l q s (withBlock n z (withLane l q s))
 moved low q n z s = record { lane = refl; on = refl; cut = refl; urgent = λ _. refl }
 moved high q n z s = record { lane = refl; on = refl; cut = refl; urgent = bounds.low-high }
 
@@ -129,14 +128,14 @@ lane-room high s e b = (rw e at b) .0
 
 module _ (g : Agreed) (l : Lane) (f : List ℕ) where
   -- the lane l is on the line, and nothing urgent breaks it off
-  record Sending (s : Sender) : Type 0 where
+  record Unbroken (s : Sender) : Type 0 where
     on : s .on ≡ sending l
     cut : s .cut ≡ false
     free : l ≡ low → g .pre ≡ true → s .high .length ≡ 0
 
   -- with the frame f
   record OnLineWith (s : Sender) : Type 0 where
-    line : Sending s
+    line : Unbroken s
     long : laneState l s .length ≡ length f
     even : s .left ≡ 0 → s .zeros ≡ 0
     room : laneState l s .position + (s .left + s .zeros) ≤ length f + 1
@@ -145,7 +144,7 @@ module _ (g : Agreed) (l : Lane) (f : List ℕ) where
     agrees : agreed (e .state .settings) ≡ g
     ready : SenderReady e
     area : take (laneState l (e .state) .length) (laneArea l e) ≡ f
-    line : Sending (e .state)
+    line : Unbroken (e .state)
 
   ahead : Sender → List ℕ
   ahead s = toSend (g .zxe) f (laneState l s .position) (s .left) (s .zeros)
@@ -324,3 +323,19 @@ sent-uninterrupted l w r b calls none =
     (goes-first g (s .low) (s .high) (s .left) (s .zeros) (s .settings) (e .low) (e .high) l (s .on) (s .suspended) (s .cut) st t (b .free) (line .2)
     (ltb-true 0 (q .length) (b .holds)) (b .highEmpty) (b .notSuspended))
     begins is (rw same) (along g l f calls))
+
+pub rest-uninterrupted : RestUninterrupted
+unfolding ahead
+rest-uninterrupted l w r on cut calls none =
+    let s = w .end .state in
+    let q = laneState l s in
+    let g = agreed (s .settings) in
+    let f = take (q .length) (laneArea l (w .end)) in
+    along g l f calls w _
+    (record {
+      agrees = refl;
+      ready = r;
+      area = refl;
+      line = record { on = on; cut = cut; free = λ e pre. none e pre .0 };
+    })
+    refl (λ e pre. none e pre .1)

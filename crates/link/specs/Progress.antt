@@ -6,12 +6,12 @@ use mathlib.Core.Logic.{_⊎_}
 use mathlib.Core.Path.{_≡_}
 use Prim.Native.Nat.{ℕ, _+_, _/_, _≤_}
 use lib.Dec.{ltb, eqb}
-use lib.ListN.{length, take, replicate}
+use lib.ListN.{length, take, drop, replicate}
 use Rattle.fcs.specs.Notation.{if_then_else_}
-use Rattle.cobs.specs.CodeBlocks.{frame, uninterrupted}
+use Rattle.cobs.specs.CodeBlocks.{frame, toLine, lineOctets, blocks, uninterrupted}
 use Rattle.link.specs.Agreed.{agreed, leastPacket, largestFrame}
 use Rattle.link.specs.Answers.{done, idle}
-use Rattle.link.specs.Sender.{Lane, low, high, noLane, sending, Sender, SenderEnd, Out, closes, breaksOff, sends, sendsNothing, refuses, outAnswer, laneState, laneArea, loaded, load, next}
+use Rattle.link.specs.Sender.{Lane, low, high, noLane, sending, Sender, SenderEnd, Out, closes, breaksOff, sends, sendsNothing, refuses, outAnswer, laneState, laneArea, laneD, loaded, load, next}
 use Rattle.link.specs.SenderParts.{SenderReady}
 use Rattle.link.specs.Runs.{SenderCall, loading, nextOctet, Station, freshStation, afterLoad, afterNext, run, loadedInto, Written, written, isOf, sentBy}
 
@@ -58,6 +58,21 @@ SentUninterrupted =
     (l ≡ low → g .pre ≡ true → loadedInto high (afterNext w) calls ≡ [])
     → (let octets = uninterrupted (g .zxe) (take (laneState l s .length) (laneArea l (w .end))) in
     SendsOf l octets (nextCalls calls + 1) (written w (nextOctet ∷ calls))))
+
+-- What is still to be sent of a D, from a position on: n data octets of a block and, behind its z zeros, the blocks of the rest.
+unfoldable pub stillToSend : Bool → List ℕ → (pos n z : ℕ) → List ℕ
+stillToSend zxe d pos n z = map toLine (take n (drop pos d)) ++ lineOctets (blocks zxe (drop (pos + (n + z)) d))
+
+-- So from any place of a frame, with the lane on the line and no cut due; of one that was broken off too, behind its D1. Each rest of a D is
+-- the D of a frame, so of these blocks `Shortest` holds as well.
+abbrev pub RestUninterrupted : Type 0
+RestUninterrupted =
+    (l : Lane) (w : Station) → SenderReady (w .end) → w .end .state .on ≡ sending l → w .end .state .cut ≡ false → (calls : List SenderCall)
+    → (let s = w .end .state in
+    let g = agreed (s .settings) in
+    let q = laneState l s in
+    (l ≡ low → g .pre ≡ true → (s .high .length ≡ 0) × (loadedInto high w calls ≡ []))
+    → SendsOf l (stillToSend (g .zxe) (laneD q (laneArea l (w .end))) (q .position) (s .left) (s .zeros)) (nextCalls calls) (written w calls))
 
 -- So a packet, loaded into either lane of a fresh sender, with nothing loaded after it.
 abbrev pub PacketUninterrupted : Type 0

@@ -5,7 +5,7 @@ use Rattle.link.proofs.InBounds.{keep-bounds, never-out-of-bounds}
 use Rattle.link.proofs.Demands.{sound-line, demand3}
 use Rattle.link.proofs.AnyBlocks.{any-blocks}
 use Rattle.link.proofs.Progress.{idle-if-empty, emptied}
-use Rattle.link.proofs.Uninterrupted.{sent-uninterrupted}
+use Rattle.link.proofs.Uninterrupted.{sent-uninterrupted, rest-uninterrupted}
 use Rattle.link.proofs.Urgent.{urgent-first}
 use Rattle.link.proofs.Delivery.{packet-uninterrupted, nothing-lost, delivery}
 use Rattle.link.proofs.AreasAside.{areas-aside}
@@ -20,7 +20,7 @@ returns c = (
   (
     (keep-bounds, never-out-of-bounds),
     (
-      (idle-if-empty, sent-uninterrupted, packet-uninterrupted, emptied, urgent-first),
+      (idle-if-empty, sent-uninterrupted, rest-uninterrupted, packet-uninterrupted, emptied, urgent-first),
       ((λ t. (sound-line t, nothing-lost t, delivery t)), ((any-blocks, demand3), (areas-aside, ((marked, at-work), (other-bits, limits, packet-lengths, each-example))))),
     ),
   ),
