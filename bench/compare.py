@@ -1,8 +1,8 @@
 #!/usr/bin/env python3
-"""Times the proved programs against the Rust ones, or counts instructions: compare.py OURS THEIRS INPUTS [--instructions]
+"""Times the proved programs against the Rust ones, or counts instructions: compare.py OURS THEIRS INPUTS [--instructions] [--clibrary PROGRAM]
 
-OURS: the folder of the proved programs (target/bin). THEIRS: the compiled link.rs. INPUTS: the folder that make.py filled. What both
-write must be the same. Time: the runs take turns, best of five each, wall clock, output to /dev/null. Instructions: callgrind's, of a
+OURS: the folder of the proved programs (target/bin). THEIRS: the compiled link.rs. INPUTS: the folder that make.py filled. PROGRAM: the
+compiled clibrary.c; then its jobs are measured, in place of the programs. What both write must be the same. Time: the runs take turns, best of five each, wall clock, output to /dev/null. Instructions: callgrind's, of a
 million octets from the middle (the difference of two prefixes), for each octet of the line.
 """
 import re
@@ -21,6 +21,18 @@ ROWS = [
     ("send", "send-40.records"),
     ("send", "send-40-cut.records"),
     ("send", "send-zeros.records"),
+]
+CLIBRARY_ROWS = [
+    ("capture-octets", "quiet.octets"),
+    ("capture-octets", "packets.octets"),
+    ("capture-octets", "fragments.octets"),
+    ("capture-stretches", "quiet.octets"),
+    ("capture-stretches", "packets.octets"),
+    ("capture-stretches", "fragments.octets"),
+    ("send-octets", "send-1400.records"),
+    ("send-octets", "send-40.records"),
+    ("send-stretches", "send-1400.records"),
+    ("send-stretches", "send-40.records"),
 ]
 RUNS = 5
 
@@ -72,14 +84,16 @@ def instructions(command, data):
 def main():
     ours, theirs, inputs = map(Path, sys.argv[1:4])
     count = "--instructions" in sys.argv
+    clibrary = sys.argv[sys.argv.index("--clibrary") + 1] if "--clibrary" in sys.argv else None
     print("| program | input | ours | Rust | ratio |\n|---|---|---|---|---|")
-    for program, name in ROWS:
+    for program, name in CLIBRARY_ROWS if clibrary else ROWS:
         source = inputs / name
-        mine, other = [str(ours / program)], [str(theirs), program]
+        job = program.split("-")[0]
+        mine, other = [clibrary, program] if clibrary else [str(ours / program)], [str(theirs), job]
         if count:
             short, long = prefix(source, 400_000), prefix(source, 1_400_000)
             octets = len(long) - len(short)
-            if program == "send":
+            if job == "send":
                 line = [len(subprocess.run(other, input=d, stdout=subprocess.PIPE, check=True).stdout) for d in (short, long)]
                 octets = line[1] - line[0]
             a, b = ((instructions(c, long) - instructions(c, short)) / octets for c in (mine, other))

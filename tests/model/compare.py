@@ -6,7 +6,8 @@
 DIR/capture, DIR/count and DIR/exercise read standard input and write standard output; the output of
 each must be that of `model capture|count|exercise`, octet for octet, on random inputs made here.
 Exits 0 when nothing differs, 1 at the first difference (input and both outputs are saved) or when a
-run of full size did not see every answer of every call, 2 when a program is missing.
+run of full size did not see every answer of every call and every area shown inside, to its end and
+beyond it; 2 when a program is missing. All three programs must end with status 0, also after `E`.
 """
 import argparse
 import collections
@@ -89,6 +90,10 @@ def build_model(folder):
 # Commands of docs/EXERCISE.md
 # ------------------------------------------------------------------------------------------------
 
+COMMANDS = b"oOlhnraAfstdx"
+WHOLE_AREAS = (20480, 20480, 20480, 20480, 40960)  # low, high, first, second, out
+
+
 def number(n):
     return bytes((n & 255, n >> 8))
 
@@ -115,6 +120,10 @@ def receive(data):
 
 def lend(lengths):
     return b"a" + b"".join(map(number, lengths))
+
+
+def lend_out(length):
+    return b"A" + number(length)
 
 
 def fill(area, at, data):
@@ -460,7 +469,9 @@ def compare_captures(programs, rng, total, seen):
 # Exercise scripts
 # ------------------------------------------------------------------------------------------------
 
-EDGES = (0, 1, 2, 3, 4, 5, 6, 10, 11, 206, 207, 208, 2048, 2049, 2050, 2051, 2052, 2053, 65535)
+EDGES = (0, 1, 2, 3, 4, 5, 6, 10, 11, 206, 207, 208, 255, 256, 257, 258, 2048, 2049, 2050, 2051, 2052, 2053, 65535)
+PLACES = (0, 1, 2040, 2051, 4095, 4096, 20470, 20478, 20479, 20480, 20481, 40950, 40958, 40959, 40960, 40961, 65534,
+          65535)
 
 
 def edge(rng, around):
@@ -525,24 +536,36 @@ def just_beyond(rng):
     return [settings(rng), *low, *high, left, zeros, line, 0, 0]
 
 
-def disturbed(rng, state, work=None):
-    """One number or a few put to an edge. The work area is left at 0 or 1 (docs/EXERCISE.md has it modulo 2)."""
+def disturbed(rng, state):
+    """One number or a few put to an edge."""
     if rng.random() < 0.45:
         return state
     state = list(state)
     for _ in range(rng.choice((1, 1, 1, 2, 4))):
-        at = rng.randrange(1, 10)
-        state[at] = rng.randrange(2) if at == work else edge(rng, state[at])
+        at = rng.randrange(10)
+        state[at] = edge(rng, state[at])
     return state
 
 
 def area_lengths(rng):
     if rng.random() < 0.5:
         return [2050, 2050, 2051, 2051]
-    lengths = [rng.choice((2050, 4096)), rng.choice((2050, 4096)), rng.choice((2051, 4096)), rng.choice((2051, 4096))]
+    lengths = [rng.choice((least, 4096, 20480, rng.randint(least, 20480))) for least in (2050, 2050, 2051, 2051)]
     for _ in range(rng.choice((0, 1, 1, 4))):
-        lengths[rng.randrange(4)] = rng.choice((2049, 2050, 2050, 2051, 0, 1, 4096, 4097, 65535))
+        lengths[rng.randrange(4)] = rng.choice((2049, 2050, 2050, 2051, 0, 1, 20479, 20480, 20481, 40960, 65535))
     return lengths
+
+
+def out_length(rng):
+    return rng.choice((0, 1, 2050, 2051, 20480, 40959, 40960, 40961, 65535, rng.randrange(65536)))
+
+
+def area_number(rng):
+    """One that is there most often; any octet."""
+    kind = rng.random()
+    if kind < 0.6:
+        return rng.randrange(5)
+    return rng.choice((5, 6, 7, 8, 127, 128, 252, 253, 254, 255)) if kind < 0.8 else rng.randrange(256)
 
 
 def area_octets(rng):
@@ -567,6 +590,12 @@ def line_octets(rng):
     return zero_free(rng, rng.randint(1, 260)) + FLAG
 
 
+def octets_shown(area, at, count):
+    """How many octets a show writes."""
+    whole = WHOLE_AREAS[area] if area < len(WHOLE_AREAS) else 0
+    return max(0, min(count, whole - at))
+
+
 class Script:
     """A script and what each of its commands is, so that its output can be told apart."""
 
@@ -574,9 +603,9 @@ class Script:
         self.parts = []
         self.kinds = []
 
-    def add(self, command, kind=None, calls=0):
+    def add(self, command, kind=None, calls=0, shown=None):
         self.parts.append(command)
-        self.kinds.append((kind, calls))
+        self.kinds.append((kind, calls, shown))
 
     def octets(self):
         return b"".join(self.parts)
@@ -591,7 +620,11 @@ class Script:
         self.add(SHOW_STATES, "states")
 
     def show(self, area, at, count):
-        self.add(show(area, at, count), "area")
+        self.add(show(area, at, count), "show", shown=(area, at, count))
+
+    def show_all(self):
+        for area in range(len(WHOLE_AREAS)):
+            self.show(area, 0, 65535)
 
     def receive(self, data):
         """Always followed by both states, so that its lines end at an `S`."""
@@ -604,15 +637,18 @@ def show_some(rng, script, area, near):
     if kind < 0.6:
         script.show(area, max(0, min(65535, near - 4)), 14)
     elif kind < 0.8:
-        script.show(rng.randrange(256), rng.choice((0, 1, 2040, 2049, 4090, 4095, 4096, 65535)),
-                    rng.choice((0, 1, 6, 20)))
+        script.show(area_number(rng), rng.choice(PLACES), rng.choice((0, 1, 6, 20)))
     elif kind < 0.84:
-        script.show(area, 0, 4096)
+        script.show(area, 0, 2100)
+    elif kind < 0.841:
+        script.show(area, 0, 65535)
 
 
 def add_load(rng, script):
     lane = rng.randrange(2)
     length = rng.choice((0, 1, 2, 3, 4, 9, 40, 206, 2047, 2048, 2049, 2050, rng.randint(0, 300)))
+    if rng.random() < 0.01:
+        length = rng.choice((20478, 20480, 20481, 65535))
     script.load(lane, packet(rng, length))
     if rng.random() < 0.6:
         script.states()
@@ -633,15 +669,14 @@ def add_sender_state(rng, script):
     state = just_beyond(rng) if rng.random() < 0.05 else disturbed(rng, sender_state(rng))
     script.add(hand_sender(state))
     if rng.random() < 0.3:
-        area = rng.randrange(2)
-        script.add(fill(area + 4 * rng.randrange(3), rng.choice((0, 0, 0, 3, 2040, 4090)), area_octets(rng)))
+        script.add(fill(rng.randrange(2), rng.choice((0, 0, 0, 3, 2040)), area_octets(rng)))
     if rng.random() < 0.3:
         add_load(rng, script)
     add_sends(rng, script)
 
 
 def add_receiver_state(rng, script):
-    state = disturbed(rng, receiver_state(rng), work=1)
+    state = disturbed(rng, receiver_state(rng))
     script.add(hand_receiver(state))
     if rng.random() < 0.15:
         script.add(fill(2 + rng.randrange(2), rng.choice((0, 0, 2040)), area_octets(rng)))
@@ -660,7 +695,7 @@ def add_decoded_frame(rng, script):
     script.add(fill(2 + turn, 0, frame))
     state = [settings(rng), turn, len(frame), rng.choice((0, 0, 1, 6, 2052)), 0, 0, 2, 1, rng.randrange(2), 0]
     if rng.random() < 0.3:
-        state = disturbed(rng, state, work=1)
+        state = disturbed(rng, state)
     script.add(hand_receiver(state))
     script.receive(FLAG)
     script.receive(rng.choice((FLAG, b"\xd1\x02\x31\x7e", b"\x05\x31\x7e")))
@@ -701,24 +736,45 @@ def add_session(rng, script):
         add_sends(rng, script)
 
 
+def add_fills(rng, script):
+    """Octets put into areas near their ends and beyond, then shown, with the edges of another area."""
+    for _ in range(rng.choice((1, 2, 5))):
+        area, at = area_number(rng), rng.choice((*PLACES, rng.randrange(65536)))
+        length = rng.choice((0, 1, 2, 3, 20, 300, 2051))
+        if rng.random() < 0.02:
+            length = rng.choice((20480, 20481, 40960, 40961, 65535))
+        script.add(fill(area, at, rng.randbytes(length)))
+        script.show(area, max(0, at - 3), rng.choice((8, 40, 2100)))
+        script.show(area, min(65535, max(0, at + length - 3)), 8)
+        other = rng.randrange(len(WHOLE_AREAS))
+        script.show(other, 0, 4)
+        script.show(other, WHOLE_AREAS[other] - 4, 9)
+
+
 def any_script(rng, pool):
     script = Script()
     for _ in range(rng.choice((1, 5, 40, 120))):
         if rng.random() < 0.15:
             script.add(lend(area_lengths(rng)))
+        if rng.random() < 0.05:
+            script.add(lend_out(out_length(rng)))
         kind = rng.random()
-        if kind < 0.35:
+        if kind < 0.33:
             add_sender_state(rng, script)
-        elif kind < 0.72:
+        elif kind < 0.68:
             add_receiver_state(rng, script)
-        elif kind < 0.80:
+        elif kind < 0.76:
             add_decoded_frame(rng, script)
-        elif kind < 0.87:
+        elif kind < 0.83:
             add_held_frame(rng, script)
-        elif kind < 0.90:
+        elif kind < 0.86:
             add_line(rng, script, pool)
+        elif kind < 0.90:
+            add_fills(rng, script)
         else:
             add_session(rng, script)
+    if rng.random() < 0.1:
+        script.show_all()
     return script
 
 
@@ -728,9 +784,39 @@ def broken_script(rng, script):
         whole = script.octets()
         return whole[:rng.randint(0, len(whole))]
     parts = list(script.parts)
-    unknown = rng.choice([o for o in range(256) if o not in b"oOlhnrafstdx"])
+    unknown = rng.choice([o for o in range(256) if o not in COMMANDS])
     parts.insert(rng.randint(0, len(parts)), bytes((unknown,)) + rng.randbytes(3))
     return b"".join(parts)
+
+
+def every_area_number():
+    """A fill of each of the 256, each with octets of its own, and what they left."""
+    fills = [fill(area, 10 * (area % 9), bytes((area, 1, 255 - area))) for area in range(256)]
+    return b"".join(fills) + b"".join(show(area, 0, 100) for area in range(256))
+
+
+def longest_operands(rng):
+    """Every count as large as it can be, with areas lent as largely."""
+    return b"".join((
+        lend((65535,) * 4), lend_out(65535), *(fill(area, 0, rng.randbytes(65535)) for area in range(6)),
+        *(fill(area, 65535, rng.randbytes(65535)) for area in range(6)), load_low(rng.randbytes(65535)), SHOW_STATES,
+        load_low(rng.randbytes(2048)), next_octets(65535), b"O\x03", receive(rng.randbytes(65535)), SHOW_STATES,
+        *(show(area, at, 65535) for area in range(6) for at in (0, 65535))))
+
+
+def fixed_scripts(rng):
+    """Named scripts that chance would seldom make."""
+    yield "nothing", b""
+    yield "the start", SHOW_STATES + b"".join(show(area, 0, 65535) for area in range(len(WHOLE_AREAS)))
+    for octet in range(256):
+        yield f"command {octet} alone", SHOW_STATES + bytes((octet,))
+    for command in (b"o\x03", b"O\x03", load_low(b"AB"), load_high(b"AB"), next_octets(3), receive(b"\x01\x7e\x01\x7e"),
+                    lend((1, 2, 3, 4)), lend_out(5), fill(4, 1, b"AB"), hand_sender(range(10)),
+                    hand_receiver(range(10)), show(0, 1, 2)):
+        for cut in range(1, len(command) + 1):
+            yield f"command {command[:1].decode()}, {cut} octets", SHOW_STATES + command[:cut]
+    yield "every area number", every_area_number()
+    yield "longest operands", longest_operands(rng)
 
 
 def answer_of(line):
@@ -741,11 +827,25 @@ def answer_of(line):
     return f"P area {fields[1]}" if fields[0] == "P" else fields[0]
 
 
+def note_show(line, shown, seen):
+    """The count of octets is reckoned here too."""
+    area, _, asked = shown
+    count = octets_shown(*shown)
+    if line[:1] != "X" or len(line) != 1 + 3 * count:
+        sys.exit(f"the model shows {line[:60]!r} where {count} octets were to be shown")
+    if area >= len(WHOLE_AREAS):
+        seen.answers["show", "no such area"] += 1
+    elif count < asked:
+        seen.answers["show", f"area {area} to its end" if count else f"beyond area {area}"] += 1
+    else:
+        seen.answers["show", f"area {area}"] += 1
+
+
 def note_answers(script, out, seen):
     """Tells the lines of a whole script's output apart, call by call."""
     lines = out.decode().split("\n")
     at = 0
-    for kind, calls in script.kinds:
+    for kind, calls, shown in script.kinds:
         seen.calls += calls
         if kind in ("load", "next octet"):
             for line in lines[at:at + calls]:
@@ -759,7 +859,8 @@ def note_answers(script, out, seen):
             seen.answers[kind, "Quiet"] += calls - (at - begin)
         elif kind == "states":
             at += 2
-        elif kind == "area":
+        elif kind == "show":
+            note_show(lines[at], shown, seen)
             at += 1
     if lines[at:] != [""]:
         sys.exit("the model wrote other lines than its script asks for")
@@ -767,7 +868,7 @@ def note_answers(script, out, seen):
 
 def compare_scripts(programs, rng, total, seen):
     pool = sound_line(programs, rng, 200_000, 0.8)
-    for name, data in (("nothing", b""), ("unknown", b"?"), ("states", b"d"), ("cut short", b"dn\x05")):
+    for name, data in fixed_scripts(rng):
         programs.same("exercise", data, name)
         seen.scripts += 1
     while seen.calls < total:
@@ -788,14 +889,17 @@ REPORTS = (["packets", "held", "held-replaced"]
 ANSWERS = ([("load", a) for a in ("D", "R 1", "R 2", "R 3", "R 4")]
            + [("next octet", a) for a in ("O", "I", "R 2", "R 3")]
            + [("receiver", a) for a in ("Quiet", "P area 0", "P area 1", "H replaced 0", "H replaced 1")]
-           + [("receiver", f"R {n}") for n in (2, 3, *range(5, 15))])
+           + [("receiver", f"R {n}") for n in (2, 3, *range(5, 15))]
+           + [("show", words) for n in range(len(WHOLE_AREAS))
+              for words in (f"area {n}", f"area {n} to its end", f"beyond area {n}")]
+           + [("show", "no such area")])
 
 
 def print_seen(seen):
     print(f"captures: {seen.captures}, octets compared: {seen.octets}")
     print("reports seen: " + ", ".join(f"{kind} {count}" for kind, count in seen.reports.items()))
     print(f"scripts: {seen.scripts}, calls compared: {seen.calls}")
-    for call in ("load", "next octet", "receiver"):
+    for call in ("load", "next octet", "receiver", "show"):
         print(f"answers of {call}: " + ", ".join(
             f"{answer} {seen.answers[c, answer]}" for c, answer in ANSWERS if c == call))
     missing = [kind for kind in REPORTS if not seen.reports[kind]]

@@ -1,6 +1,7 @@
 //! An independent model of the COBS link of document 01 (settings ZXE and PRE, two lanes, two
-//! receive areas). Written from document 01 alone; "01" in the comments is that document, and
-//! "step n" its numbered step. A comment `Reading:` marks a place where its words were weighed.
+//! receive areas). Written from document 01 and the exercise driver's format alone; "01" in the
+//! comments is that document, and "step n" its numbered step. A comment `Reading:` marks a place
+//! where its words were weighed.
 //!
 //!     rustc -C opt-level=3 --edition 2021 -o model model.rs
 //!
@@ -989,11 +990,18 @@ fn count(input: &mut impl Read, mut output: impl Write) -> io::Result<()> {
 // Exercise
 // ---------------------------------------------------------------------------------------------
 
-const WHOLE_AREA: usize = 4096;
+/// The whole of low, high, first and second each, and the most that is lent of them.
+const END_AREA: usize = 20_480;
+/// The same of out.
+const OUT_AREA: usize = 40_960;
+/// Lent of out at the start.
+const OUT_LENT: usize = 2_051;
 const LOW: usize = 0;
 const HIGH: usize = 1;
 const FIRST: usize = 2;
 const SECOND: usize = 3;
+const OUT: usize = 4;
+const AREAS: usize = 5;
 
 /// A command with all of its operands.
 enum Command<'a> {
@@ -1002,7 +1010,9 @@ enum Command<'a> {
     Load(LaneName, &'a [u8]),
     Next(usize),
     Receive(&'a [u8]),
+    /// Lengths of low, high, first and second.
     Lend([usize; 4]),
+    LendOut(usize),
     Fill {
         area: usize,
         at: usize,
@@ -1033,9 +1043,10 @@ impl<'a> Script<'a> {
             b'h' => Command::Load(LaneName::High, self.octets()?),
             b'n' => Command::Next(self.number()?),
             b'r' => Command::Receive(self.octets()?),
-            b'a' => Command::Lend(self.numbers()?.map(|length| length.min(WHOLE_AREA))),
+            b'a' => Command::Lend(self.numbers()?.map(|length| length.min(END_AREA))),
+            b'A' => Command::LendOut(self.number()?.min(OUT_AREA)),
             b'f' => Command::Fill {
-                area: self.area()?,
+                area: self.octet()?.into(),
                 at: self.number()?,
                 octets: self.octets()?,
             },
@@ -1043,7 +1054,7 @@ impl<'a> Script<'a> {
             b't' => Command::HandReceiver(receiver_of(self.numbers()?)),
             b'd' => Command::ShowStates,
             b'x' => Command::ShowArea {
-                area: self.area()?,
+                area: self.octet()?.into(),
                 at: self.number()?,
                 count: self.number()?,
             },
@@ -1078,11 +1089,6 @@ impl<'a> Script<'a> {
     fn octets(&mut self) -> Option<&'a [u8]> {
         let count = self.number()?;
         self.take(count)
-    }
-
-    /// An area octet above 3 counts as its remainder by 4.
-    fn area(&mut self) -> Option<usize> {
-        self.octet().map(|area| usize::from(area % 4))
     }
 }
 
@@ -1127,7 +1133,6 @@ fn sender_numbers(sender: &Sender) -> [usize; 10] {
 }
 
 /// The ten numbers of `t`.
-// The work area counts as a mark does, by its remainder by 2.
 fn receiver_of(numbers: [usize; 10]) -> Receiver {
     let [settings, work, decoded, held, left, zeros, last, in_frame, resumed, remembered] = numbers;
     Receiver {
@@ -1163,18 +1168,18 @@ fn receiver_numbers(receiver: &Receiver) -> [usize; 10] {
     ]
 }
 
-/// The part of a whole area from `at` on, at most `count` octets.
-fn part(at: usize, count: usize) -> std::ops::Range<usize> {
-    let begin = at.min(WHOLE_AREA);
-    begin..(begin + count).min(WHOLE_AREA)
+/// The places from `at` on, at most `count`, of an area that has `whole` in all.
+fn part(at: usize, count: usize, whole: usize) -> std::ops::Range<usize> {
+    let begin = at.min(whole);
+    begin..(begin + count).min(whole)
 }
 
-/// Both ends, their areas, and the lengths with which these are lent.
+/// Both ends, the whole areas by their numbers, and the lengths with which these are lent.
 struct Bench<W: Write> {
     sender: Sender,
     receiver: Receiver,
-    areas: [[u8; WHOLE_AREA]; 4],
-    lengths: [usize; 4],
+    areas: [Vec<u8>; AREAS],
+    lengths: [usize; AREAS],
     lines: Lines<W>,
 }
 
@@ -1183,8 +1188,14 @@ impl<W: Write> Bench<W> {
         Bench {
             sender: Sender::open(Settings(0)),
             receiver: Receiver::open(Settings(0)),
-            areas: [[0; WHOLE_AREA]; 4],
-            lengths: [SENDER_AREA, SENDER_AREA, RECEIVER_AREA, RECEIVER_AREA],
+            areas: [END_AREA, END_AREA, END_AREA, END_AREA, OUT_AREA].map(|whole| vec![0; whole]),
+            lengths: [
+                SENDER_AREA,
+                SENDER_AREA,
+                RECEIVER_AREA,
+                RECEIVER_AREA,
+                OUT_LENT,
+            ],
             lines: Lines::new(output),
         }
     }
@@ -1210,7 +1221,8 @@ impl<W: Write> Bench<W> {
             Command::Load(name, packet) => self.load(name, packet)?,
             Command::Next(count) => self.next(count)?,
             Command::Receive(octets) => self.receive(octets)?,
-            Command::Lend(lengths) => self.lengths = lengths,
+            Command::Lend(lengths) => self.lengths[..OUT].copy_from_slice(&lengths),
+            Command::LendOut(length) => self.lengths[OUT] = length,
             Command::Fill { area, at, octets } => self.fill(area, at, octets),
             Command::HandSender(sender) => self.sender = sender,
             Command::HandReceiver(receiver) => self.receiver = receiver,
@@ -1250,7 +1262,7 @@ impl<W: Write> Bench<W> {
     }
 
     fn receive(&mut self, octets: &[u8]) -> io::Result<()> {
-        let [_, _, first, second] = &mut self.areas;
+        let [_, _, first, second, _] = &mut self.areas;
         let mut lent: Areas = [
             &mut first[..self.lengths[FIRST]],
             &mut second[..self.lengths[SECOND]],
@@ -1272,11 +1284,13 @@ impl<W: Write> Bench<W> {
         Ok(())
     }
 
-    /// What lies beyond the whole area is dropped.
+    /// What lies beyond the whole area is dropped; an area that is not there takes nothing.
     fn fill(&mut self, area: usize, at: usize, octets: &[u8]) {
-        let place = part(at, octets.len());
-        let kept = place.len();
-        self.areas[area][place].copy_from_slice(&octets[..kept]);
+        if let Some(area) = self.areas.get_mut(area) {
+            let places = part(at, octets.len(), area.len());
+            let kept = places.len();
+            area[places].copy_from_slice(&octets[..kept]);
+        }
     }
 
     fn show_states(&mut self) -> io::Result<()> {
@@ -1284,9 +1298,12 @@ impl<W: Write> Bench<W> {
         self.lines.numbers(b'T', &receiver_numbers(&self.receiver))
     }
 
+    /// An area that is not there has no octets.
     fn show_area(&mut self, area: usize, at: usize, count: usize) -> io::Result<()> {
         self.lines.begin(b'X');
-        self.lines.octets(&self.areas[area][part(at, count)]);
+        if let Some(area) = self.areas.get(area) {
+            self.lines.octets(&area[part(at, count, area.len())]);
+        }
         self.lines.end()
     }
 }

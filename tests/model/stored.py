@@ -6,20 +6,22 @@
     tests/captures/NAME.octets      a capture
     tests/captures/NAME.lines       what the capture program prints for it
     tests/captures/NAME.counts      what the count program prints for it
-    crates/exercise/stdin, stdout   one script of the exercise program, and what that prints
+    tests/scripts/NAME.script       commands for the exercise driver; base has the whole table below
+    tests/scripts/NAME.answers      what the driver writes for them
     crates/count/stdin, stdout      the capture stale-fragment, and its counts
 
-Every entry of the script's table has, beside its commands, the answers that document 01 asks for,
-written down by hand; they are held against the model's output before anything is stored.
---explain prints each entry with its output. Seeds are fixed: the same files come out each time.
+Every entry of the table has, beside its commands, the answers that document 01 asks for, written
+down by hand (a text: the answers of calls; a list: every line, with states and areas shown); the
+small scripts likewise. They are held against the model's output before a script is stored.
+--explain prints each entry with its lines. Seeds are fixed: the same files come out each time.
 """
 import os
 import random
 import sys
 import tempfile
 
-from compare import (FLAG, HERE, Programs, build_model, fcs, fill, hand_receiver, hand_sender, lend, load_high, load_low,
-                     next_octets, packet, receive, sent_octets, show, zero_free)
+from compare import (FLAG, HERE, WHOLE_AREAS, Programs, build_model, fcs, fill, hand_receiver, hand_sender, lend,
+                     lend_out, load_high, load_low, next_octets, packet, receive, sent_octets, show, zero_free)
 
 
 def hx(text):
@@ -229,6 +231,8 @@ CAPTURES = {
 
 D = b"d"
 DEFAULT_LENGTHS = lend((2050, 2050, 2051, 2051))
+LONG_LENGTHS = lend((20480, 20480, 20480, 20480))
+OUT_AREA = 4
 
 
 def open_sender(settings):
@@ -259,9 +263,21 @@ def show_receiver(at=0):
 
 
 def fill_all():
-    """Known octets in all areas: 1, 2, 3, ... without zeros, so that what is written shows."""
+    """Known octets in the ends' areas: 1, 2, 3, ... without zeros, so that what is written shows."""
     ramp = bytes(1 + n % 250 for n in range(2100))
     return b"".join(fill(area, 0, ramp) for area in range(4))
+
+
+# --- What stands before the first command
+def start():
+    yield "both ends open, settings 0", D, ["S 0 0 0 0 0 0 0 0 0 0", "T 0 0 0 0 0 0 0 0 0 0"]
+    yield ("all areas zeros",
+           b"".join(show(area, 0, 3) + show(area, whole - 3, 9) for area, whole in enumerate(WHOLE_AREAS)),
+           ["X 00 00 00"] * 10)
+    yield ("areas lent long enough", load_low(hx("41 42")) + load_high(hx("41 42")) + next_octets(1)
+           + receive(hx("D2 7E")), "D, D, O 05, R 7")
+    yield ("known octets in areas 0 to 3", fill_all() + b"".join(show(area, 2098, 4) for area in range(4)),
+           ["X 63 64 00 00"] * 4)
 
 
 # --- In bounds, the sender: clause, states at its edge, states just beyond it in that clause alone.
@@ -424,8 +440,26 @@ def areas():
            "R 2, R 2, R 2")
     yield ("sender areas are none of the receiver's", open_receiver(3) + lend((0, 0, 2051, 2051))
            + receive(hx("05 31 7E")) + D + show_receiver(), "H 1 0")
-    yield ("longer areas", open_sender(3) + open_receiver(3) + lend((4096, 65535, 4096, 2052)) + load_low(TWO)
-           + next_octets(2) + receive(hx("05 31 7E")) + D, "D, O 05, O 41, H 1 0")
+    for name, lengths in (("one more than needed", (2051, 2051, 2052, 2052)), ("20,480 of each", (20480,) * 4),
+                          ("more counts as 20,480", (20481, 40960, 65535, 20481))):
+        yield (f"longer areas, {name}", open_sender(3) + open_receiver(3) + lend(lengths) + load_low(TWO)
+               + next_octets(2) + receive(hx("05 31 7E")) + D, "D, O 05, O 41, H 1 0")
+    yield ("long areas: a packet has 2,048 octets all the same", LONG_LENGTHS + open_sender(3)
+           + load_low(b"\x31" * 2049) + load_high(b"\x31" * 4000) + D, "R 1, R 1")
+    yield ("long areas: F and nothing beyond", LONG_LENGTHS + open_sender(3) + fill(0, 2040, hx("EE") * 20)
+           + load_low(b"\x31" * 2048) + show(0, 2046, 6), ["D", f"X 31 31 {fcs(b'1' * 2048).hex(' ').upper()} EE EE"])
+    yield ("long areas: lengths to 2,050 and counts to 2,051 all the same", LONG_LENGTHS
+           + sender(low=(2051, 0)) + next_octets(1) + receiver(held=2052) + receive(FLAG)
+           + receiver(decoded=2052, left=1, **IN_OTHER) + receive(FLAG), "R 3, R 3, R 3")
+    yield ("long areas: 10 all the same, nothing written", LONG_LENGTHS + fill(2, 2049, hx("EE") * 5)
+           + receiver(decoded=2051, left=2, zeros=1, **IN_OTHER) + receive(hx("31")) + show(2, 2049, 5) + receive(FLAG)
+           + open_receiver(3) + receive(hx("DF") * 137 + FLAG), ["X EE EE EE EE EE", "R 10", "R 10"])
+    for short, answers in ((0, "R 2, D, R 2, H 1 0"), (1, "D, R 2, R 2, H 1 0"), (2, "D, D, O 05, R 2, R 2, R 2"),
+                           (3, "D, D, O 05, R 2, R 2, R 2")):
+        lengths = [20480] * 4
+        lengths[short] = (2049, 2049, 2050, 2050)[short]
+        yield (f"long areas, area {short} one short", open_sender(3) + open_receiver(3) + lend(lengths) + load_low(TWO)
+               + load_high(TWO) + next_octets(1) + receive(hx("05 31 7E")) + D, answers)
     yield ("exactly long enough again", DEFAULT_LENGTHS + open_sender(3) + open_receiver(3) + load_low(TWO)
            + load_high(TWO) + next_octets(1) + receive(hx("02 31 7E")) + D, "D, D, O 05, R 13")
 
@@ -655,20 +689,77 @@ def codes():
            fill(2, 0, b"\x31" * 20) + fill(3, 0, b"\x31" * 20) + commands, ", ".join(answers))
 
 
+def mark_begins():
+    """The areas 0 to 4 begin A0 B0, A1 B1, ..."""
+    return b"".join(fill(area, 0, bytes((0xA0 + area, 0xB0 + area))) for area in range(5))
+
+
 def script_format():
-    yield "area octet above 3", fill(6, 0, hx("AA BB")) + show(2, 0, 2) + show(254, 0, 2) + show(7, 0, 1), ""
-    yield "x to place 4,095", fill(1, 4094, hx("AA BB CC")) + show(1, 4094, 9) + show(1, 4095, 1) + show(1, 4096, 1), ""
-    yield "x of nothing", show(0, 0, 0) + show(0, 65535, 65535), ""
-    yield ("numbers too large count as remainders", hand_sender((259, 4, 0, 0, 0, 256, 258, 4, 2, 3)) + D
-           + hand_receiver((515, 0, 5, 65535, 257, 256, 5, 3, 2, 261)) + D, "")
-    yield "n of none, r of none", next_octets(0) + receive(b""), ""
+    for area in range(4):
+        yield (f"the end of area {area}", fill(area, 20477, hx("99 AA BB CC DD")) + show(area, 20477, 9)
+               + show(area, 20479, 1) + show(area, 20480, 1) + show(area, 65535, 1), ["X 99 AA BB", "X BB", "X", "X"])
+    yield ("nothing goes over into another area", mark_begins()
+           + b"".join(fill(area, whole - 1, bytes((0xC0 + area,)) + hx("DD") * 30) for area, whole in enumerate(WHOLE_AREAS))
+           + b"".join(show(area, 0, 2) + show(area, whole - 1, 9) for area, whole in enumerate(WHOLE_AREAS)),
+           ["X A0 B0", "X C0", "X A1 B1", "X C1", "X A2 B2", "X C2", "X A3 B3", "X C3", "X A4 B4", "X C4"])
+    yield ("f from beyond the end on", fill(1, 20479, hx("55")) + fill(1, 20480, hx("DD"))
+           + fill(1, 65535, hx("DD DD DD")) + show(1, 20479, 9) + show(1, 0, 2) + show(2, 0, 2),
+           ["X 55", "X A1 B1", "X A2 B2"])
+    yield ("the end is the whole area's, nothing lent", lend((0, 0, 0, 0))
+           + b"".join(fill(area, 20479, bytes((0x70 + area,))) + show(area, 20479, 2) for area in range(4))
+           + DEFAULT_LENGTHS, ["X 70", "X 71", "X 72", "X 73"])
+    yield "x of nothing", show(0, 0, 0) + show(4, 40959, 0) + show(0, 65535, 65535), ["X", "X", "X"]
+    yield "x, as many as there are", show(0, 20479, 65535) + show(4, 40959, 65535), ["X 70", "X C4"]
+    yield ("f of nothing", fill(0, 0, b"") + fill(0, 20480, b"") + fill(9, 0, b"") + show(0, 0, 2), ["X A0 B0"])
+    yield ("numbers too large count as remainders", hand_sender((259, 4, 0, 0, 0, 256, 258, 4, 2, 3))
+           + hand_receiver((515, 2, 5, 65535, 257, 256, 5, 3, 2, 261)) + D,
+           ["S 3 4 0 0 0 0 2 1 0 1", "T 3 0 5 65535 1 0 2 1 0 5"])
+    yield ("numbers as large as they can be", hand_sender((65535,) * 10) + hand_receiver((65535,) * 10) + D,
+           ["S 255 65535 65535 65535 65535 255 255 0 1 1", "T 255 1 65535 65535 255 255 0 1 1 255"])
+    yield ("one below", hand_sender((65534,) * 10) + hand_receiver((65534,) * 10) + D,
+           ["S 254 65534 65534 65534 65534 254 254 2 0 0", "T 254 0 65534 65534 254 254 2 0 0 254"])
+    yield ("work area 3 is the second",
+           hand_receiver((3, 3, 0, 0, 0, 0, 0, 0, 0, 0)) + receive(hx("E0 03 47 0F 7E")), "P 1 2 00 00")
+    yield ("held 1 is a fragment of no octets",
+           hand_receiver((3, 0, 0, 1, 0, 0, 0, 0, 0, 0)) + receive(hx("05 31 7E")) + D, "H 1 1")
+    yield "n of none, r of none", next_octets(0) + receive(b""), []
 
 
-def last_command():
-    yield "last command cut short", open_sender(3) + load_low(TWO) + D + b"n\x05", "D, E"
+def no_area():
+    begins = b"".join(show(area, 0, 2) for area in range(5))
+    unchanged = ["X A0 B0", "X A1 B1", "X A2 B2", "X A3 B3", "X A4 B4"]
+    above = (7, 8, 9, 10, 11, 12, 127, 128, 254, 255)
+    yield ("area octet above 6", mark_begins() + b"".join(fill(area, 0, hx("DD DD")) for area in above) + begins
+           + show(7, 0, 2) + show(8, 0, 0) + show(128, 0, 2) + show(255, 0, 65535) + show(255, 65535, 65535),
+           unchanged + ["X"] * 5)
+    yield ("areas 5 and 6 are not there yet", fill(5, 0, hx("DD DD")) + fill(6, 0, hx("DD DD")) + begins
+           + show(5, 0, 2) + show(6, 0, 2), unchanged + ["X", "X"])
+    yield "what f of no area brings is read, not carried out", fill(200, 0x6464, b"ddd") + show(0, 0, 2), ["X A0 B0"]
+
+
+def out_area():
+    yield ("filled and shown", fill(OUT_AREA, 0, hx("AA BB CC 00 00")) + show(OUT_AREA, 0, 5), ["X AA BB CC 00 00"])
+    yield ("goes on where the other areas end", fill(OUT_AREA, 20478, hx("01 02 03 04")) + show(OUT_AREA, 20478, 4)
+           + show(3, 20479, 4), ["X 01 02 03 04", "X 73"])
+    yield ("its end", fill(OUT_AREA, 40957, hx("99 AA BB CC DD")) + show(OUT_AREA, 40957, 9) + show(OUT_AREA, 40959, 1)
+           + show(OUT_AREA, 40960, 1) + show(OUT_AREA, 65535, 1), ["X 99 AA BB", "X BB", "X", "X"])
+    yield ("f from beyond its end on", fill(OUT_AREA, 40960, hx("DD")) + fill(OUT_AREA, 65535, hx("DD DD DD"))
+           + show(OUT_AREA, 40957, 9) + show(OUT_AREA, 0, 3) + show(0, 0, 2), ["X 99 AA BB", "X AA BB CC", "X A0 B0"])
+    for length in (0, 1, 2051, 40959, 40960, 40961, 65535):
+        yield (f"{length} lent, f and x on the whole", lend_out(length)
+               + fill(OUT_AREA, 40956, bytes((length % 256, length // 256))) + show(OUT_AREA, 40956, 9),
+               [f"X {length % 256:02X} {length // 256:02X} AA BB"])
+    yield ("A leaves what is lent of the others", DEFAULT_LENGTHS + lend_out(0) + open_sender(3) + open_receiver(3)
+           + load_low(TWO) + next_octets(1) + receive(hx("05 31 7E")) + SHORT_LOW + lend_out(40960) + next_octets(1)
+           + DEFAULT_LENGTHS, "D, O 05, H 1 0, R 2")
+    yield ("load, next octet and receiver leave it", fill(OUT_AREA, 0, hx("AA BB CC DD")) + lend_out(40960)
+           + open_sender(3) + open_receiver(3) + load_low(TWO) + next_octets(6) + receive(hx("E0 03 47 0F 7E"))
+           + show(OUT_AREA, 0, 6),
+           ["D", "O 05", "O 41", "O 42", "O EF", "O 31", "O 7E", "P 0 2 00 00", "X AA BB CC DD 00 00"])
 
 
 GROUPS = [
+    ("the start", start),
     ("document 01's marked frames", marked),
     ("load", loads),
     ("lent areas", areas),
@@ -680,8 +771,47 @@ GROUPS = [
     ("in bounds, receiver", receiver_bounds),
     ("codes", codes),
     ("the script's own format", script_format),
-    ("end", last_command),
+    ("area numbers", no_area),
+    ("out", out_area),
 ]
+
+# --- Small scripts: commands, and every line that they give. A script ends at `E`, so each such case has its own.
+LONG = 65535
+EXAMPLE = open_sender(3) + load_low(hx("00 00")) + next_octets(6)
+SCRIPTS = {
+    "nothing": (b"", []),
+    # The example of docs/EXERCISE.md.
+    "example": (EXAMPLE, ["D", "O E0", "O 03", "O 47", "O 0F", "O 7E", "I"]),
+    # 41 42 43 (FCS 2F 9F) is broken off after 41 by 44 45 (FCS E8 3B), and resumed.
+    "preempted": (
+        open_sender(3) + load_low(hx("41 42 43")) + next_octets(2) + D + load_high(hx("44 45")) + next_octets(1) + D
+        + next_octets(14) + open_receiver(3) + receive(hx("06 41 7E")) + D + receive(hx("05 44 45 E8 3B 7E")) + D
+        + receive(hx("D1 05 42 43 2F 9F")) + D + receive(FLAG) + D,
+        ["D", "O 06", "O 41", "S 3 5 1 0 0 4 1 1 0 0", "T 0 0 0 0 0 0 0 0 0 0",
+         "D", "O 7E", "S 3 5 1 4 0 0 0 0 1 0", "T 0 0 0 0 0 0 0 0 0 0",
+         "O 05", "O 44", "O 45", "O E8", "O 3B", "O 7E", "O D1", "O 05", "O 42", "O 43", "O 2F", "O 9F", "O 7E", "I",
+         "H 1 0", "S 3 0 0 0 0 0 0 0 0 0", "T 3 1 0 2 0 0 0 0 0 0",
+         "P 1 2 44 45", "S 3 0 0 0 0 0 0 0 0 0", "T 3 1 0 2 0 0 0 0 0 0",
+         "S 3 0 0 0 0 0 0 0 0 0", "T 3 0 6 0 0 0 2 1 1 0",
+         "P 0 3 41 42 43", "S 3 0 0 0 0 0 0 0 0 0", "T 3 0 0 0 0 0 0 0 0 0"]),
+    # The operands of an unknown command are not known either: nothing behind it is carried out.
+    "unknown": (EXAMPLE + b"?" + D, ["D", "O E0", "O 03", "O 47", "O 0F", "O 7E", "I", "E"]),
+    "unknown-octet": (b"\x80", ["E"]),
+    # Cut short, a command is not carried out: no line of its own before the `E`.
+    "cut-number": (open_sender(3) + load_low(TWO) + next_octets(1) + b"n\x05", ["D", "O 05", "E"]),
+    "cut-packet": (open_sender(3) + load_low(hx("41 42 43"))[:-1], ["E"]),
+    "cut-line": (open_receiver(3) + receive(hx("05 31 7E 7E"))[:-1], ["E"]),
+    "cut-state": (hand_sender((3,) * 10)[:-1], ["E"]),
+    "cut-show": (show(0, 0, 1)[:-1], ["E"]),
+    "cut-letter": (D + b"A", ["S 0 0 0 0 0 0 0 0 0 0", "T 0 0 0 0 0 0 0 0 0 0", "E"]),
+    # Counts as large as they can be.
+    "long-operands": (
+        lend((LONG,) * 4) + lend_out(LONG) + fill(0, 0, hx("A5") * LONG) + show(0, 20478, LONG) + show(1, 0, 2)
+        + load_low(hx("31") * LONG) + D + open_receiver(3) + receive(hx("D3 7E") + FLAG * (LONG - 4) + hx("D2 7E")) + D
+        + next_octets(LONG) + show(OUT_AREA, 0, 3) + show(OUT_AREA, 40958, LONG),
+        ["X A5 A5", "X 00 00", "R 1", "S 0 0 0 0 0 0 0 0 0 0", "T 0 0 0 0 0 0 0 0 0 0", "R 13", "R 7",
+         "S 0 0 0 0 0 0 0 0 0 0", "T 3 0 0 0 0 0 0 0 0 0", *["I"] * LONG, "X 00 00 00", "X 00 00"]),
+}
 
 
 # ------------------------------------------------------------------------------------------------
@@ -692,10 +822,13 @@ def answers_of(lines):
     return [line for line in lines if line[0] not in "STX"]
 
 
-def as_asked(asked, answers):
+def as_asked(asked, lines):
+    """A list asks for every line; a text for the answers of calls."""
+    if isinstance(asked, list):
+        return lines == asked
     if asked == "no R 3":
-        return "R 3" not in answers
-    return ", ".join(answers) == asked
+        return "R 3" not in answers_of(lines)
+    return ", ".join(answers_of(lines)) == asked
 
 
 def write(path, data):
@@ -714,26 +847,42 @@ def write_captures(programs, folder):
         print(f"capture {name}: {len(data)} octets; {seen or 'no report'}")
 
 
-def write_script(programs, folder, explain):
+def base_script(programs, explain):
+    """All of the table in one script; and how many of its entries are answered otherwise than asked."""
     entries = [(f"{group}: {name}", commands, asked) for group, table in GROUPS for name, commands, asked in table()]
-    script, before, wrong = fill_all(), 0, 0
+    script, before, wrong = b"", 0, 0
     for name, commands, asked in entries:
         script += commands
         lines = programs.of_model("exercise", script).decode().splitlines()
-        answers = answers_of(lines[before:])
-        good = as_asked(asked, answers)
+        own = lines[before:]
+        good = as_asked(asked, own)
         wrong += not good
-        print(f"script {name}" + ("" if good else f"\n  ASKED {asked}\n  MODEL {', '.join(answers)}"))
+        print(f"script {name}" + ("" if good else f"\n  ASKED {asked}\n  MODEL {own}"))
         if explain:
-            for line in lines[before:]:
-                print("    " + line[:120])
+            for number, line in enumerate(own, before + 1):
+                print(f"    {number}: {line[:120]}")
         before = len(lines)
+    print(f"base: {len(entries)} entries")
+    return script, wrong
+
+
+def write_scripts(programs, folder, explain):
+    base, wrong = base_script(programs, explain)
+    scripts = {"base": base}
+    for name, (commands, asked) in SCRIPTS.items():
+        scripts[name] = commands
+        lines = programs.of_model("exercise", commands).decode().splitlines()
+        if lines != asked:
+            print(f"script {name}\n  ASKED {asked[:40]}\n  MODEL {lines[:40]}")
+            wrong += 1
     if wrong:
-        sys.exit(f"{wrong} entries are not answered as asked; nothing stored")
-    out = programs.of_model("exercise", script)
-    write(os.path.join(folder, "stdin"), script)
-    write(os.path.join(folder, "stdout"), out)
-    print(f"script: {len(entries)} entries, {len(script)} octets, output {len(out)} octets")
+        sys.exit(f"{wrong} entries are not answered as asked; no script stored")
+    os.makedirs(folder, exist_ok=True)
+    for name, script in scripts.items():
+        answers = programs.of_model("exercise", script)
+        write(os.path.join(folder, name + ".script"), script)
+        write(os.path.join(folder, name + ".answers"), answers)
+        print(f"script {name}: {len(script)} octets, answers {len(answers)} octets")
 
 
 def main():
@@ -744,7 +893,7 @@ def main():
     with tempfile.TemporaryDirectory() as temporary:
         programs = Programs(build_model(temporary), "", "")
         write_captures(programs, captures)
-        write_script(programs, os.path.join(root, "crates", "exercise"), "--explain" in sys.argv)
+        write_scripts(programs, os.path.join(root, "tests", "scripts"), "--explain" in sys.argv)
         for ending, name in ((".octets", "stdin"), (".counts", "stdout")):
             with open(os.path.join(captures, "stale-fragment" + ending), "rb") as file:
                 write(os.path.join(root, "crates", "count", name), file.read())

@@ -13,8 +13,8 @@ use Rattle.cobs.proofs.Tests.{branch, decide, and-left, and-right}
 use Rattle.cobs.proofs.Table.{numbers}
 use Rattle.cobs.proofs.Chosen.{Stands, chosen-at}
 use Rattle.link.specs.Agreed.{Agreed, agreed, leastPacket, leastFrame, largestFrame}
-use Rattle.link.specs.Answers.{refused}
-use Rattle.link.specs.Sender.{Lane, low, high, OnLine, noLane, sending, LaneState, Sender, SenderEnd, Step, Load, laneState, loaded, laneD, laneOk, lineOk, laneOnLineOk, inBounds, putFrame, load, step1CutDue, next}
+use Rattle.link.specs.Answers.{Answer, done, refused}
+use Rattle.link.specs.Sender.{Lane, low, high, OnLine, noLane, sending, LaneState, Sender, SenderEnd, refuses, Step, Load, laneState, loaded, laneD, laneOk, lineOk, laneOnLineOk, inBounds, putFrame, load, step1CutDue, next}
 use Rattle.link.proofs.Tests.{ands, true-false, false-true, not-below, or-cases}
 use Rattle.link.proofs.Way.{Advance, last, more, covers, opens, Way, ends, cuts, warns, goes, sender, Turn, cut·due, idles, resumes·low, begins·high, begins·low, high·on, low·on, turn}
 use Rattle.link.proofs.Follow.{frame-long}
@@ -458,3 +458,32 @@ pub load-keeps : (g : Agreed) (l : Lane) (p : List ℕ) (s : Sender) (a : List �
 load-keeps g l p s a ag b =
     by-load g l p s a (λ t. Kept g (s .settings) (t .state)) ag (λ _. record { settings = refl; bounds = b })
     (λ k. put-bounds g p (k .big) (k .small) l s a (k .free) b)
+
+-- a load answers Done or a refusal
+pub load-answers : (P : Answer → Type 0) → P done → ((n : ℕ) → P (refused n)) → (l : Lane) (p : List ℕ) (s : Sender) (area : List ℕ) → P (load l p s area .answer)
+unfolding putFrame
+load-answers P d r l p s area = by-load (agreed (s .settings)) l p s area (λ (t : Load). P (t .answer)) refl r (λ _. d)
+
+-- ---- refused 2 and 3
+
+module _ (l : Lane) (p : List ℕ) (s : Sender) (area : List ℕ) where
+  pub load-short : ltb (length area) (largestFrame (agreed (s .settings))) ≡ true → load l p s area ≡ record { answer = refused 2; state = s; area = area }
+  unfolding load
+  load-short k = simp k
+
+  pub load-out-of-bounds : ltb (length area) (largestFrame (agreed (s .settings))) ≡ false → inBounds (agreed (s .settings)) s ≡ false
+      → load l p s area ≡ record { answer = refused 3; state = s; area = area }
+  unfolding load
+  load-out-of-bounds k b = simp (k, b)
+
+module _ (e : SenderEnd) where
+  abbrev short : Bool
+  short = ltb (length (e .low)) (largestFrame (agreed (e .state .settings))) || ltb (length (e .high)) (largestFrame (agreed (e .state .settings)))
+
+  pub next-short : short ≡ true → next e ≡ record { out = refuses 2; state = e .state }
+  unfolding next
+  next-short k = simp k
+
+  pub next-out-of-bounds : short ≡ false → inBounds (agreed (e .state .settings)) (e .state) ≡ false → next e ≡ record { out = refuses 3; state = e .state }
+  unfolding next
+  next-out-of-bounds k b = simp (k, b)

@@ -1,6 +1,6 @@
 -- The numbers of a report: the length of a packet is within the limit, and within its area as the call left it; a count of held octets and
 -- the number of a refusal are small.
-use mathlib.Core.Bool.{not, _||_}
+use mathlib.Core.Bool.{Bool, not, _||_}
 use mathlib.Core.List.{List}
 use mathlib.Core.Path.{_≡_, refl, ap, _∙_}
 use Prim.Native.Nat.{ℕ, _+_, _-_, _≤_}
@@ -12,9 +12,11 @@ use Rattle.fcs.specs.CheckSequence.{good}
 use Rattle.cobs.specs.CodeBlocks.{flag}
 use Rattle.cobs.proofs.Tests.{branch}
 use Rattle.link.specs.Agreed.{Agreed, agreed, leastFrame, mostDecoded}
-use Rattle.link.specs.Receiver.{ReceiverEnd, Receive, Ended, isNoBlock, isD0, inBounds, step5WithoutPhantom, step5Flag, atFlag, work, flagged, receive}
+use Rattle.link.specs.Answers.{Answer, quiet, packet, held, refused}
+use Rattle.link.specs.Receiver.{Receiver, ReceiverEnd, Receive, Ended, isNoBlock, isD0, inBounds, step5WithoutPhantom, step5Flag, atFlag, work, flagged, receive}
 use Rattle.link.specs.EachCall.{Within, ReportsWithin}
-use Rattle.link.proofs.Tests.{not-below}
+use Rattle.link.specs.ReceiverParts.{ReceiverReady}
+use Rattle.link.proofs.Tests.{not-below, none-short}
 use Rattle.link.proofs.ReceiverBounds.{Bounds, bounds}
 
 -- at a flag
@@ -71,3 +73,60 @@ limit-is settings = refl
 pub most-is : (settings : ℕ) → mostDecoded (agreed settings) ≡ 2051
 unfolding agreed
 most-is settings = refl
+
+-- a receiver that is in bounds and has areas long enough refuses no call: what it refuses are frames
+module _ (g : Agreed) (r : Receiver) (b : Bounds g r) where
+  abbrev OfFrame : Ended → Type 0
+  OfFrame t = (n : ℕ) → t .report ≡ refused n → 5 ≤ n
+
+  whole-of-frame : (area : List ℕ) (n : ℕ) → OfFrame (step5WithoutPhantom g r area n)
+  unfolding step5WithoutPhantom
+  whole-of-frame area n =
+      branch OfFrame (ltb n (leastFrame g)) (λ _ k e. let z : 13 ≡ k = cc in omega arith)
+      (λ _. branch OfFrame (good (g .check) (take n area)) (λ _ k e. absurd (let z : _≡_ {A = ℕ} 0 1 = cc in omega arith)) (λ _ k e. let z : 14 ≡ k = cc in omega arith))
+
+  flag-of-frame : (area : List ℕ) → OfFrame (atFlag g r area)
+  unfolding atFlag step5Flag
+  flag-of-frame area =
+      branch OfFrame (r .framed)
+      (λ _. branch OfFrame (not (eqb (r .refusal) 0))
+      (λ k n e. let z : r .refusal ≡ n = cc in let some = b .refusals (eqb-false (r .refusal) 0 (not-true (eqb (r .refusal) 0) k)) in omega (arith, some .0))
+      (λ _. branch OfFrame (isNoBlock (r .last)) (λ _ n e. let z : 9 ≡ n = cc in omega arith)
+      (λ _. branch OfFrame (ltb 0 (r .left))
+      (λ _. branch OfFrame (g .pre) (λ _ n e. absurd (let z : _≡_ {A = ℕ} 0 1 = cc in omega arith)) (λ _ n e. let z : 11 ≡ n = cc in omega arith))
+      (λ _. branch OfFrame (isD0 (r .last)) (λ _ n e. let z : 12 ≡ n = cc in omega arith) (λ _. whole-of-frame area (r .decoded - 1))))))
+      (λ _ n e. absurd (let z : _≡_ {A = ℕ} 0 1 = cc in omega arith))
+
+pub refuses-frames : (e : ReceiverEnd) → ReceiverReady e → (x n : ℕ) → receive e x .report ≡ refused n → 5 ≤ n
+unfolding receive
+refuses-frames e ready x =
+    let g = agreed (e .state .settings) in
+    let P : Receive → Type 0 = λ h. (n : ℕ) → h .report ≡ refused n → 5 ≤ n in
+    rw (none-short (mostDecoded g) (length (e .first)) (length (e .second)) (ready .1, ready .2), ready .0)
+    (branch P (eqb x flag) (λ _. flag-of-frame g (e .state) (bounds g (e .state) (ready .0)) (work e .area))
+    (λ _ n k. absurd (let z : _≡_ {A = ℕ} 0 1 = cc in omega arith)))
+
+-- a receiver's call answers Quiet, Packet, Held or a refusal
+module _ (P : Answer → Type 0) (q : P quiet) (p : (inSecond : Bool) (n : ℕ) → P (packet inSecond n)) (h : (n : ℕ) (replaced : Bool) → P (held n replaced)) (r : (n : ℕ) → P (refused n)) where
+  by-flag : (g : Agreed) (s : Receiver) (area : List ℕ) → P (atFlag g s area .report)
+  unfolding atFlag step5Flag step5WithoutPhantom
+  by-flag g s area =
+      let E : Ended → Type 0 = λ t. P (t .report) in
+      branch E (s .framed)
+      (λ _. branch E (not (eqb (s .refusal) 0)) (λ _. r (s .refusal))
+      (λ _. branch E (isNoBlock (s .last)) (λ _. r 9)
+      (λ _. branch E (ltb 0 (s .left)) (λ _. branch E (g .pre) (λ _. h _ _) (λ _. r 11))
+      (λ _. branch E (isD0 (s .last)) (λ _. r 12)
+      (λ _. branch E (ltb (s .decoded - 1) (leastFrame g)) (λ _. r 13)
+      (λ _. branch E (good (g .check) (take (s .decoded - 1) area)) (λ _. p _ _) (λ _. r 14)))))))
+      (λ _. q)
+
+  pub by-report : (e : ReceiverEnd) (x : ℕ) → P (receive e x .report)
+  unfolding receive
+  by-report e x =
+      let g = agreed (e .state .settings) in
+      let most = mostDecoded g in
+      let E : Receive → Type 0 = λ t. P (t .report) in
+      branch E (ltb (length (e .first)) most || ltb (length (e .second)) most) (λ _. r 2)
+      (λ _. branch E (not (inBounds g (e .state))) (λ _. r 3)
+      (λ _. branch E (eqb x flag) (λ _. by-flag g (e .state) (work e .area)) (λ _. q)))

@@ -12,8 +12,9 @@ use denote.Enum.Declared.{tagOf, declared}
 use lib.Dec.{eqb}
 use lib.ListN.{length, take, drop, set, getD, length-set, length-append, length-drop, length-map, List·getD-map, take-append-drop}
 use lib.Seq.{paste, take-suc-set, drop-set-lt, append-snoc, drop-cons, drop-drop, length-take-le, getD-drop, paste-suc, length-paste, take-paste, drop-paste}
+use Rattle.fcs.specs.Notation.{if_then_else_}
 use Rattle.cobs.specs.CodeBlocks.{flag, toLine}
-use Rattle.link.specs.Answers.{octet, nextAnswer}
+use Rattle.link.specs.Answers.{Answer, done, octet, idle, quiet, packet, held, refused, nextAnswer}
 use Rattle.link.specs.declared.sender.NextAnswer.{NextAnswer}
 use Rattle.link.specs.declared.sender.NextAnswer.the-variants.{Octet, Idle, Refused}
 use Rattle.link.proofs.sender.NextAnswer.{enum}
@@ -24,6 +25,7 @@ use Rattle.link.specs.Sender.{SenderEnd, Next, laneArea, laneState, next, seen}
 use Rattle.link.specs.SenderParts.{SenderReady}
 use Rattle.link.proofs.WriteOn.{octet-ready, sent, Stretch, first, rest, inside, plain}
 use Rattle.writer.specs.Writing.{Wrote, writesNothing, octetFirst, byAnswer, writeOn, fromPlace}
+use Rattle.writer.specs.Pieces.{NoOctet}
 
 -- ---- a line with its first i octets filled
 
@@ -150,3 +152,34 @@ copies line area at from i l k =
     let xs = map toLine (drop from area) in
     let j : i < length xs = rw (length-map (drop from area) toLine, length-drop) (omega arith) in
     rw (add-one, ← getD-drop from area i 0, ← List·getD-map toLine (drop from area) i 0) (paste-suc line at xs i (toLine 0) l j)
+
+-- ---- nothing written
+
+-- what holds of nothing written, and of an octet with what follows it, holds of every answer
+by-octet : (P : Wrote → Type 0) (a : Answer) (s t : Sender) (r : Wrote) → P (writesNothing s)
+    → ((x : ℕ) → a ≡ octet x → P (octetFirst x (if eqb x flag then writesNothing t else r))) → P (byAnswer a s t r)
+by-octet P done s t r n f = n
+by-octet P (octet x) s t r n f = f x refl
+by-octet P idle s t r n f = n
+by-octet P quiet s t r n f = n
+by-octet P (packet inSecond k) s t r n f = n
+by-octet P (held k replaced) s t r n f = n
+by-octet P (refused k) s t r n f = n
+
+-- where there is no room, nothing is written,
+pub no-room : (e : SenderEnd) → writeOn 0 e ≡ writesNothing (e .state)
+unfolding writeOn
+no-room e = refl
+
+-- nor where the first call answers no octet
+pub no-octet : (n : ℕ) (e : SenderEnd) → NoOctet e → writeOn n e ≡ writesNothing (e .state)
+unfolding writeOn
+no-octet zero e k = refl
+no-octet (suc n) e k = by-octet (λ (w : Wrote). w ≡ writesNothing (e .state)) (seen (next e) .answer) _ _ _ refl (λ x q. absurd (k x q))
+
+-- where nothing is written, the sender is as it was
+pub none-written : (n : ℕ) (e : SenderEnd) → length (writeOn n e .octets) ≡ 0 → writeOn n e .state ≡ e .state
+unfolding writeOn
+none-written zero e = λ k. refl
+none-written (suc n) e =
+    by-octet (λ (w : Wrote). length (w .octets) ≡ 0 → w .state ≡ e .state) (seen (next e) .answer) _ _ _ (λ k. refl) (λ x q k. absurd (omega (arith, k)))

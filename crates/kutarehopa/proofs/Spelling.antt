@@ -1,0 +1,275 @@
+-- Octets and the states that they spell.
+use mathlib.Core.Path.{_≡_, refl, ap}
+use mathlib.Core.Bool.{Bool, true, false}
+use mathlib.Core.List.{List}
+use Prim.Native.Nat.{ℕ, zero, suc, _+_, _*_, _<_}
+use native.Mathlib.Omega.{arith}
+use borrow.Author.Tests.{leb-true, eqb-true, eqb-false}
+use lib.Dec.{leb, eqb}
+use lib.ListN.{getD}
+use Rattle.fcs.specs.Notation.{if_then_else_}
+use Rattle.link.proofs.Tests.{ands}
+use Rattle.link.specs.declared.sender.Lane.the-variants.{Low as low, High as high}
+use Rattle.link.specs.declared.sender.OnLine.{OnLine}
+use Rattle.link.specs.declared.sender.OnLine.the-variants.{NoLane as noLane, Sending as sending}
+use Rattle.link.specs.declared.sender.Sender.{Sender}
+use Rattle.link.specs.declared.receiver.Fragment.{Fragment}
+use Rattle.link.specs.declared.receiver.Fragment.the-variants.{NothingHeld as nothingHeld, Holds as holds}
+use Rattle.link.specs.declared.receiver.LastBlock.{LastBlock}
+use Rattle.link.specs.declared.receiver.LastBlock.the-variants.{NoBlock as noBlock, BlockD0 as blockD0, OtherBlock as otherBlock}
+use Rattle.link.specs.declared.receiver.Receiver.{Receiver}
+use Rattle.kutarehopa.specs.Layout.{octetAt, markAt, lowOctet, highOctet, markOctet, lastBlockOf, lastBlockOctet, heldCount, heldOctet, spellReceiver, receiverIn, receiverOctets, lineOf, lineOctet, spellSender, senderIn, senderOctets, over}
+use Rattle.kutarehopa.specs.Spelling.{placesIfHeld, receiverPlaces, senderPlaces, octetsAt, PackedSpellsItself, PackedAgain, LooksNowhereElse}
+
+-- ---- a field in octets and back
+
+number-back : (n : ℕ) → lowOctet n + 256 * highOctet n ≡ n
+number-back n = omega arith
+
+mark-small : (b : Bool) → leb (markOctet b) 1 ≡ true
+mark-small true = refl
+mark-small false = refl
+
+mark-back : (b : Bool) → eqb (markOctet b) 1 ≡ b
+mark-back true = refl
+mark-back false = refl
+
+held-small : (f : Fragment) → leb (heldOctet f) 1 ≡ true
+held-small nothingHeld = refl
+held-small (holds n) = refl
+
+held-back : (f : Fragment) → (if eqb (heldOctet f) 1 then holds (lowOctet (heldCount f) + 256 * highOctet (heldCount f)) else nothingHeld) ≡ f
+held-back nothingHeld = refl
+held-back (holds n) = ap holds (number-back n)
+
+last-small : (b : LastBlock) → leb (lastBlockOctet b) 2 ≡ true
+last-small noBlock = refl
+last-small blockD0 = refl
+last-small otherBlock = refl
+
+last-back : (b : LastBlock) → lastBlockOf (lastBlockOctet b) ≡ b
+last-back noBlock = refl
+last-back blockD0 = refl
+last-back otherBlock = refl
+
+line-small : (o : OnLine) → leb (lineOctet o) 2 ≡ true
+line-small noLane = refl
+line-small (sending low) = refl
+line-small (sending high) = refl
+
+line-back : (o : OnLine) → lineOf (lineOctet o) ≡ o
+line-back noLane = refl
+line-back (sending low) = refl
+line-back (sending high) = refl
+
+-- ---- octets as a field and back
+
+low-again : (a b : ℕ) → a < 256 → lowOctet (a + 256 * b) ≡ a
+low-again a b h = omega arith
+
+high-again : (a b : ℕ) → a < 256 → highOctet (a + 256 * b) ≡ b
+high-again a b h = omega arith
+
+mark-again : (n : ℕ) → leb n 1 ≡ true → markOctet (eqb n 1) ≡ n
+mark-again zero h = refl
+mark-again (suc zero) h = refl
+mark-again (suc (suc n)) h = absurd (omega (arith, leb-true (suc (suc n)) 1 h))
+
+last-again : (n : ℕ) → leb n 2 ≡ true → lastBlockOctet (lastBlockOf n) ≡ n
+last-again zero h = refl
+last-again (suc zero) h = refl
+last-again (suc (suc zero)) h = refl
+last-again (suc (suc (suc n))) h = absurd (omega (arith, leb-true (suc (suc (suc n))) 2 h))
+
+line-again : (n : ℕ) → leb n 2 ≡ true → lineOctet (lineOf n) ≡ n
+line-again zero h = refl
+line-again (suc zero) h = refl
+line-again (suc (suc zero)) h = refl
+line-again (suc (suc (suc n))) h = absurd (omega (arith, leb-true (suc (suc (suc n))) 2 h))
+
+-- ---- states
+
+receiver-spelled : (r : Receiver) (m : List ℕ) → spellReceiver (over (receiverOctets r) m) ≡ true
+unfolding spellReceiver receiverOctets
+receiver-spelled r m = rw (mark-small (r .turn), held-small (r .held), last-small (r .last), mark-small (r .framed), mark-small (r .resumed))
+
+receiver-back : (r : Receiver) (m : List ℕ) → receiverIn (over (receiverOctets r) m) ≡ r
+unfolding receiverIn receiverOctets
+receiver-back r m =
+    rw (mark-back (r .turn), number-back (r .decoded), held-back (r .held), last-back (r .last), mark-back (r .framed), mark-back (r .resumed))
+
+sender-spelled : (s : Sender) (m : List ℕ) → spellSender (over (senderOctets s) m) ≡ true
+unfolding spellSender senderOctets
+sender-spelled s m = rw (line-small (s .on), mark-small (s .suspended), mark-small (s .cut))
+
+sender-back : (s : Sender) (m : List ℕ) → senderIn (over (senderOctets s) m) ≡ s
+unfolding senderIn senderOctets
+sender-back s m =
+    rw (
+      line-back (s .on),
+      mark-back (s .suspended),
+      mark-back (s .cut),
+      number-back (s .low .length),
+      number-back (s .low .position),
+      number-back (s .high .length),
+      number-back (s .high .position),
+    )
+
+pub packed-spells-itself : PackedSpellsItself
+packed-spells-itself =
+    record { receiver = λ r m. (receiver-spelled r m, receiver-back r m); sender = λ s m. (sender-spelled s m, sender-back s m) }
+
+-- ---- packed again
+
+-- the tests of `spellReceiver` and of `spellSender`, one by one
+abbrev ReceiverTests : List ℕ → Type 0
+ReceiverTests m =
+    (eqb (octetAt m 0) 1 ≡ true)
+    × (leb (octetAt m 10) 1 ≡ true)
+    × (leb (octetAt m 13) 1 ≡ true)
+    × (leb (octetAt m 22) 2 ≡ true)
+    × (leb (octetAt m 23) 1 ≡ true)
+    × (leb (octetAt m 24) 1 ≡ true)
+
+receiver-tests : (m : List ℕ) → spellReceiver m ≡ true → ReceiverTests m
+unfolding spellReceiver
+receiver-tests m =
+    ands (eqb (octetAt m 0) 1) (leb (octetAt m 10) 1) (leb (octetAt m 13) 1) (leb (octetAt m 22) 2) (leb (octetAt m 23) 1) (leb (octetAt m 24) 1)
+
+abbrev SenderTests : List ℕ → Type 0
+SenderTests m = (eqb (octetAt m 0) 1 ≡ true) × (leb (octetAt m 5) 2 ≡ true) × (leb (octetAt m 6) 1 ≡ true) × (leb (octetAt m 7) 1 ≡ true)
+
+sender-tests : (m : List ℕ) → spellSender m ≡ true → SenderTests m
+unfolding spellSender
+sender-tests m s =
+    let t = ands true true (eqb (octetAt m 0) 1) (leb (octetAt m 5) 2) (leb (octetAt m 6) 1) (leb (octetAt m 7) 1) s in
+    (t .2, t .3, t .4, t .5)
+
+module _ (m : List ℕ) (o : (i : ℕ) → octetAt m i < 256) where
+  receiver-again : ReceiverTests m → (held : Bool) → markAt m 13 ≡ held
+      → octetsAt (over (receiverOctets (receiverIn m)) m) (placesIfHeld held) ≡ octetsAt m (placesIfHeld held)
+  unfolding receiverIn receiverOctets
+  receiver-again t true h =
+      rw (
+        h,
+        eqb-true (octetAt m 0) 1 (t .0),
+        mark-again (octetAt m 10) (t .1),
+        low-again (octetAt m 11) (octetAt m 12) (o 11),
+        high-again (octetAt m 11) (octetAt m 12) (o 11),
+        eqb-true (octetAt m 13) 1 h,
+        last-again (octetAt m 22) (t .3),
+        mark-again (octetAt m 23) (t .4),
+        mark-again (octetAt m 24) (t .5),
+        low-again (octetAt m 14) (octetAt m 15) (o 14),
+        high-again (octetAt m 14) (octetAt m 15) (o 14),
+      )
+  receiver-again t false h =
+      let none : octetAt m 13 ≡ 0 = omega (arith, leb-true (octetAt m 13) 1 (t .2), eqb-false (octetAt m 13) 1 h) in
+      rw (
+        h,
+        eqb-true (octetAt m 0) 1 (t .0),
+        mark-again (octetAt m 10) (t .1),
+        low-again (octetAt m 11) (octetAt m 12) (o 11),
+        high-again (octetAt m 11) (octetAt m 12) (o 11),
+        none,
+        last-again (octetAt m 22) (t .3),
+        mark-again (octetAt m 23) (t .4),
+        mark-again (octetAt m 24) (t .5),
+      )
+
+  sender-again : SenderTests m → octetsAt (over (senderOctets (senderIn m)) m) senderPlaces ≡ octetsAt m senderPlaces
+  unfolding senderIn senderOctets
+  sender-again t =
+      rw (
+        eqb-true (octetAt m 0) 1 (t .0),
+        line-again (octetAt m 5) (t .1),
+        mark-again (octetAt m 6) (t .2),
+        mark-again (octetAt m 7) (t .3),
+        low-again (octetAt m 8) (octetAt m 9) (o 8),
+        high-again (octetAt m 8) (octetAt m 9) (o 8),
+        low-again (octetAt m 10) (octetAt m 11) (o 10),
+        high-again (octetAt m 10) (octetAt m 11) (o 10),
+        low-again (octetAt m 12) (octetAt m 13) (o 12),
+        high-again (octetAt m 12) (octetAt m 13) (o 12),
+        low-again (octetAt m 14) (octetAt m 15) (o 14),
+        high-again (octetAt m 14) (octetAt m 15) (o 14),
+      )
+
+pub packed-again : PackedAgain
+packed-again =
+    record {
+      receiver = λ m o s. receiver-again m o (receiver-tests m s) (markAt m 13) refl;
+      sender = λ m o s. sender-again m o (sender-tests m s);
+    }
+
+-- ---- no other place
+
+module _ (m n : List ℕ) where
+  -- the octets at the k-th of some places
+  same-at : (places : List ℕ) → octetsAt n places ≡ octetsAt m places → (k : ℕ) → getD (octetsAt n places) k 0 ≡ getD (octetsAt m places) k 0
+  same-at places e k = ap (λ (l : List ℕ). getD l k 0) e
+
+  abbrev SameReceiver : Type 0
+  SameReceiver = (octetAt n 0 ≡ octetAt m 0)
+      × (octetAt n 4 ≡ octetAt m 4)
+      × (octetAt n 10 ≡ octetAt m 10)
+      × (octetAt n 11 ≡ octetAt m 11)
+      × (octetAt n 12 ≡ octetAt m 12)
+      × (octetAt n 13 ≡ octetAt m 13)
+      × (octetAt n 20 ≡ octetAt m 20)
+      × (octetAt n 21 ≡ octetAt m 21)
+      × (octetAt n 22 ≡ octetAt m 22)
+      × (octetAt n 23 ≡ octetAt m 23)
+      × (octetAt n 24 ≡ octetAt m 24)
+      × (octetAt n 25 ≡ octetAt m 25)
+
+  same-receiver : (held : Bool) → octetsAt n (placesIfHeld held) ≡ octetsAt m (placesIfHeld held) → SameReceiver
+  same-receiver held e = let at = same-at (placesIfHeld held) e in (at 0, at 1, at 2, at 3, at 4, at 5, at 6, at 7, at 8, at 9, at 10, at 11)
+
+  same-held : (held : Bool) → markAt m 13 ≡ held → octetsAt n (placesIfHeld held) ≡ octetsAt m (placesIfHeld held)
+      → (if markAt m 13 then holds (octetAt n 14 + 256 * octetAt n 15) else nothingHeld) ≡ (if markAt m 13 then holds (octetAt m 14 + 256 * octetAt m 15) else nothingHeld)
+  same-held true h e =
+      let at = same-at (placesIfHeld true) e in
+      let low : octetAt n 14 ≡ octetAt m 14 = at 12 in
+      let high : octetAt n 15 ≡ octetAt m 15 = at 13 in
+      rw (low, high)
+  same-held false h e = rw h
+
+  receiver-nowhere : octetsAt n (receiverPlaces m) ≡ octetsAt m (receiverPlaces m) → (spellReceiver n ≡ spellReceiver m) × (receiverIn n ≡ receiverIn m)
+  unfolding spellReceiver receiverIn
+  receiver-nowhere e =
+      let p = same-receiver (markAt m 13) e in (
+        rw (p .0, p .2, p .5, p .8, p .9, p .10),
+        rw (p .1, p .2, p .3, p .4, p .5, p .6, p .7, p .8, p .9, p .10, p .11, same-held (markAt m 13) refl e),
+      )
+
+  abbrev SameSender : Type 0
+  SameSender = (octetAt n 0 ≡ octetAt m 0)
+      × (octetAt n 4 ≡ octetAt m 4)
+      × (octetAt n 5 ≡ octetAt m 5)
+      × (octetAt n 6 ≡ octetAt m 6)
+      × (octetAt n 7 ≡ octetAt m 7)
+      × (octetAt n 8 ≡ octetAt m 8)
+      × (octetAt n 9 ≡ octetAt m 9)
+      × (octetAt n 10 ≡ octetAt m 10)
+      × (octetAt n 11 ≡ octetAt m 11)
+      × (octetAt n 12 ≡ octetAt m 12)
+      × (octetAt n 13 ≡ octetAt m 13)
+      × (octetAt n 14 ≡ octetAt m 14)
+      × (octetAt n 15 ≡ octetAt m 15)
+      × (octetAt n 16 ≡ octetAt m 16)
+      × (octetAt n 17 ≡ octetAt m 17)
+
+  same-sender : octetsAt n senderPlaces ≡ octetsAt m senderPlaces → SameSender
+  same-sender e = let at = same-at senderPlaces e in (at 0, at 1, at 2, at 3, at 4, at 5, at 6, at 7, at 8, at 9, at 10, at 11, at 12, at 13, at 14)
+
+  sender-nowhere : octetsAt n senderPlaces ≡ octetsAt m senderPlaces → (spellSender n ≡ spellSender m) × (senderIn n ≡ senderIn m)
+  unfolding spellSender senderIn
+  sender-nowhere e =
+      let p = same-sender e in (
+        rw (p .0, p .2, p .3, p .4),
+        rw (p .1, p .2, p .3, p .4, p .5, p .6, p .7, p .8, p .9, p .10, p .11, p .12, p .13, p .14),
+      )
+
+pub looks-nowhere-else : LooksNowhereElse
+looks-nowhere-else = record { receiver = receiver-nowhere; sender = sender-nowhere }

@@ -1,0 +1,86 @@
+-- `kutarehopa::receiver::unpack`.
+use borrow.Author.Needs.{needs}
+use Rattle.kutarehopa.specs.Layout.{receiverIn}
+use Rattle.kutarehopa.proofs.receiver.unpack.Statement.{statement}
+use Rattle.kutarehopa.proofs.receiver.unpack.Tie as tie
+
+element-copy-out-fragment : tie.Need-element-copy-out-fragment
+element-copy-out-fragment c = search needs
+
+element-copy-out-number : tie.Need-element-copy-out-number
+element-copy-out-number c = search needs
+
+element-copy-out-number-2 : tie.Need-element-copy-out-number-2
+element-copy-out-number-2 c = search needs
+
+number-requires : tie.Need-number-requires
+number-requires c κs = search needs
+
+fragment-requires : tie.Need-fragment-requires
+fragment-requires c κs = search needs
+
+element-copy-out-last-block : tie.Need-element-copy-out-last-block
+element-copy-out-last-block c = search needs
+
+last-block-requires : tie.Need-last-block-requires
+last-block-requires c κs = search needs
+
+element-copy-out-t13 : tie.Need-element-copy-out-t13
+element-copy-out-t13 c = search needs
+
+element-copy-out-t6 : tie.Need-element-copy-out-t6
+element-copy-out-t6 c = search needs
+
+element-copy-out-t10 : tie.Need-element-copy-out-t10
+element-copy-out-t10 c = search needs
+
+element-copy-out-t25 : tie.Need-element-copy-out-t25
+element-copy-out-t25 c = search needs
+
+element-copy-out-t28 : tie.Need-element-copy-out-t28
+element-copy-out-t28 c = search needs
+
+element-copy-out-t32 : tie.Need-element-copy-out-t32
+element-copy-out-t32 c = search needs
+
+element-copy-out-t36 : tie.Need-element-copy-out-t36
+element-copy-out-t36 c = search needs
+
+element-copy-out-number-3 : tie.Need-element-copy-out-number-3
+element-copy-out-number-3 c = search needs
+
+element-copy-out-number-4 : tie.Need-element-copy-out-number-4
+element-copy-out-number-4 c = search needs
+
+number-requires-2 : tie.Need-number-requires-2
+number-requires-2 c κs = search needs
+
+returns : tie.Need-returns
+unfolding receiverIn
+returns c =
+    let l = c .before .before .before .before .before .before .before .before .before .before in
+    let f = l .before .before in
+    rw (c .number2 .ensures, l .last-block .ensures, f .fragment .ensures, f .before .number .ensures)
+
+pub unpack-spec : {M : Type 1} → statement M
+unpack-spec =
+    tie.close
+    (tie.spec
+    element-copy-out-fragment
+    element-copy-out-number
+    element-copy-out-number-2
+    number-requires
+    fragment-requires
+    element-copy-out-last-block
+    last-block-requires
+    element-copy-out-t13
+    element-copy-out-t6
+    element-copy-out-t10
+    element-copy-out-t25
+    element-copy-out-t28
+    element-copy-out-t32
+    element-copy-out-t36
+    element-copy-out-number-3
+    element-copy-out-number-4
+    number-requires-2
+    returns)

@@ -1,0 +1,174 @@
+-- The calls of the C library: what each answers, and the octets of its state and its areas after it. Each is the call of link, of reader or of
+-- writer on the state that the octets spell.
+use mathlib.Core.Bool.{Bool, true, false, _||_}
+use mathlib.Core.List.{List}
+use Prim.Native.Nat.{ℕ, _-_}
+use lib.Dec.{leb, ltb, eqb}
+use lib.ListN.{length, getD}
+use Rattle.fcs.specs.Notation.{if_then_else_}
+use Rattle.link.specs.Agreed.{agreed, largestFrame, mostDecoded}
+use Rattle.link.specs.Answers.{Answer, done, octet, idle, quiet, packet, held, refused}
+use Rattle.link.specs.declared.sender.Lane.{Lane}
+use Rattle.link.specs.declared.sender.Sender.{Sender}
+use Rattle.link.specs.Sender.{SenderEnd, Load, Next, openedSender, load, next, seen}
+use Rattle.link.specs.declared.receiver.Receiver.{Receiver}
+use Rattle.link.specs.Receiver.{Receive, openedReceiver, receive}
+use Rattle.reader.specs.Reading.{Reach, readOn}
+use Rattle.writer.specs.Writing.{Filled, writeOn, onto}
+use Rattle.kutarehopa.specs.Numbers.{number}
+use Rattle.kutarehopa.specs.Layout.{octetAt, spellReceiver, receiverIn, receiverOctets, spellSender, senderIn, senderOctets, over}
+
+-- ---- opening
+
+pub record OpenCall : Type 0 where
+  pub answer : ℕ
+  pub state : List ℕ
+
+unfoldable pub openReceiver : List ℕ → ℕ → OpenCall
+openReceiver m settings = record { answer = number done; state = over (receiverOctets (openedReceiver settings)) m }
+
+unfoldable pub openSender : List ℕ → ℕ → OpenCall
+openSender m settings = record { answer = number done; state = over (senderOctets (openedSender settings)) m }
+
+-- ---- octets that spell no state
+
+-- They are refused where a state out of bounds is: 2, where an area is too short, and else 3.
+abbrev pub noState : Bool → ℕ
+noState short = if short then number (refused 2) else number (refused 3)
+
+-- too short for what was agreed, the settings being octet 4 (as yet all settings give the same lengths)
+abbrev pub shortForReceiver : List ℕ → List ℕ → List ℕ → Bool
+shortForReceiver m first second =
+    ltb (length first) (mostDecoded (agreed (octetAt m 4))) || ltb (length second) (mostDecoded (agreed (octetAt m 4)))
+
+abbrev pub shortForSender : List ℕ → List ℕ → Bool
+shortForSender m area = ltb (length area) (largestFrame (agreed (octetAt m 4)))
+
+-- ---- the receiver
+
+pub record ReceiveCall : Type 0 where
+  pub answer : ℕ
+  pub state : List ℕ
+  pub first : List ℕ
+  pub second : List ℕ
+
+-- 2 and 3 refuse the call; any other answer is a report, and the call was taken
+abbrev pub taken : Answer → Bool
+taken done = true
+taken (octet x) = true
+taken idle = true
+taken quiet = true
+taken (packet inSecond n) = true
+taken (held n replaced) = true
+taken (refused n) = leb 5 n
+
+-- the state's octets after a call: those of the new state, and where it was refused as they were
+abbrev pub receiverAfter : List ℕ → Answer → Receiver → List ℕ
+receiverAfter m a r = if taken a then over (receiverOctets r) m else m
+
+abbrev pub received : List ℕ → Receive → ReceiveCall
+received m h =
+    record {
+      answer = number (h .report);
+      state = receiverAfter m (h .report) (h .after .state);
+      first = h .after .first;
+      second = h .after .second;
+    }
+
+unfoldable pub receiveCall : List ℕ → ℕ → List ℕ → List ℕ → ReceiveCall
+receiveCall m x first second =
+    if spellReceiver m then received m (receive (record { state = receiverIn m; first = first; second = second }) x)
+    else record { answer = noState (shortForReceiver m first second); state = m; first = first; second = second }
+
+-- reading on; used: how many octets were used
+pub record ReadCall : Type 0 where
+  pub answer : ℕ
+  pub used : ℕ
+  pub state : List ℕ
+  pub first : List ℕ
+  pub second : List ℕ
+
+abbrev pub readTo : List ℕ → Reach → ReadCall
+readTo m h =
+    record {
+      answer = number (h .report);
+      used = h .used;
+      state = receiverAfter m (h .report) (h .after .state);
+      first = h .after .first;
+      second = h .after .second;
+    }
+
+-- Where there is no octet no call is made, whatever the state is.
+unfoldable pub readCall : List ℕ → List ℕ → List ℕ → List ℕ → ReadCall
+readCall m xs first second =
+    if eqb (length xs) 0 then record { answer = number quiet; used = 0; state = m; first = first; second = second }
+    else if spellReceiver m then readTo m (readOn (record { state = receiverIn m; first = first; second = second }) xs)
+    else record { answer = noState (shortForReceiver m first second); used = 1; state = m; first = first; second = second }
+
+-- ---- the sender
+
+pub record LoadCall : Type 0 where
+  pub answer : ℕ
+  pub state : List ℕ
+  pub area : List ℕ
+
+-- Only Done and an octet change the state.
+abbrev pub changes : Answer → Bool
+changes done = true
+changes (octet x) = true
+changes idle = false
+changes quiet = false
+changes (packet inSecond n) = false
+changes (held n replaced) = false
+changes (refused n) = false
+
+abbrev pub senderAfter : List ℕ → Answer → Sender → List ℕ
+senderAfter m a s = if changes a then over (senderOctets s) m else m
+
+abbrev pub loaded : List ℕ → Load → LoadCall
+loaded m h = record { answer = number (h .answer); state = senderAfter m (h .answer) (h .state); area = h .area }
+
+unfoldable pub loadCall : Lane → List ℕ → List ℕ → List ℕ → LoadCall
+loadCall l m p area =
+    if spellSender m then loaded m (load l p (senderIn m) area)
+    else record { answer = noState (shortForSender m area); state = m; area = area }
+
+pub record NextCall : Type 0 where
+  pub answer : ℕ
+  pub state : List ℕ
+
+abbrev pub sent : List ℕ → Next → NextCall
+sent m h = record { answer = number (h .answer); state = senderAfter m (h .answer) (h .state) }
+
+unfoldable pub nextCall : List ℕ → List ℕ → List ℕ → NextCall
+nextCall m low high =
+    if spellSender m then sent m (seen (next (record { state = senderIn m; low = low; high = high })))
+    else record { answer = noState (shortForSender m low || shortForSender m high); state = m }
+
+-- writing on; written: how many octets were written
+pub record WriteCall : Type 0 where
+  pub answer : ℕ
+  pub written : ℕ
+  pub state : List ℕ
+  pub line : List ℕ
+
+-- The last octet is answered; where none was written, what the first call was answered.
+abbrev pub wrote : List ℕ → Answer → Filled → WriteCall
+wrote m first t =
+    if eqb (t .filled) 0 then record { answer = number first; written = 0; state = m; line = t .line }
+    else
+    record {
+      answer = number (octet (getD (t .line) (t .filled - 1) 0));
+      written = t .filled;
+      state = over (senderOctets (t .state)) m;
+      line = t .line;
+    }
+
+-- Where there is no room no call is made, whatever the state is.
+unfoldable pub writeCall : List ℕ → List ℕ → List ℕ → List ℕ → WriteCall
+writeCall m low high line =
+    if eqb (length line) 0 then record { answer = number quiet; written = 0; state = m; line = line }
+    else if spellSender m then
+    (let e : SenderEnd = record { state = senderIn m; low = low; high = high } in
+    wrote m (seen (next e) .answer) (onto line (writeOn (length line) e)))
+    else record { answer = noState (shortForSender m low || shortForSender m high); written = 0; state = m; line = line }

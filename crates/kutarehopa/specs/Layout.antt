@@ -1,0 +1,148 @@
+-- The octets of a state, field by field: it is packed into the first of 64 octets that the caller has. Those listed here are written, each with
+-- the value of its field; a field of later work has the one value that it can have as yet, and is not looked at. Numbers of two octets have the
+-- low one first, and marks are 0 or 1.
+--
+--   receiver                               sender
+--   0       1                              0       1
+--   1       width: 16                      1       width: 16
+--   2-3     limit: 2,048                   2-3     limit: 2,048
+--   4       settings                       4       settings
+--   5       mode: 0                        5       lane on the line: 0 none, 1 low, 2 high
+--   6-9     map: 0                         6       suspended
+--   10      work area: 0 first, 1 second   7       cut due
+--   11-12   decoded                        8-9     low length
+--   13      something held                 10-11   low position
+--   14-15   held count, 0 if nothing is    12-13   high length
+--   16-19   register: 0                    14-15   high position
+--   20      data left                      16      data left
+--   21      zeros due                      17      zeros due
+--   22      last block: 0 none, 1 D0,      18-37   0
+--           2 other
+--   23      in a frame
+--   24      resumed
+--   25      remembered refusal
+use mathlib.Core.Bool.{Bool, true, false, _&&_}
+use mathlib.Core.List.{List, [], _∷_, _++_}
+use Prim.Native.Nat.{ℕ, _+_, _*_, _/_, _%_}
+use lib.Dec.{leb, eqb}
+use lib.ListN.{length, drop, getD, replicate}
+use Rattle.fcs.specs.Notation.{if_then_else_}
+use Rattle.link.specs.declared.sender.Lane.the-variants.{Low as low, High as high}
+use Rattle.link.specs.declared.sender.OnLine.{OnLine}
+use Rattle.link.specs.declared.sender.OnLine.the-variants.{NoLane as noLane, Sending as sending}
+use Rattle.link.specs.declared.sender.Sender.{Sender}
+use Rattle.link.specs.declared.receiver.Fragment.{Fragment}
+use Rattle.link.specs.declared.receiver.Fragment.the-variants.{NothingHeld as nothingHeld, Holds as holds}
+use Rattle.link.specs.declared.receiver.LastBlock.{LastBlock}
+use Rattle.link.specs.declared.receiver.LastBlock.the-variants.{NoBlock as noBlock, BlockD0 as blockD0, OtherBlock as otherBlock}
+use Rattle.link.specs.declared.receiver.Receiver.{Receiver}
+
+-- ---- fields
+
+-- octet i, and the number of octets i and i + 1
+abbrev pub octetAt : List ℕ → ℕ → ℕ
+octetAt m i = getD m i 0
+
+abbrev pub numberAt : List ℕ → ℕ → ℕ
+numberAt m i = octetAt m i + 256 * octetAt m (i + 1)
+
+abbrev pub markAt : List ℕ → ℕ → Bool
+markAt m i = eqb (octetAt m i) 1
+
+-- and back
+abbrev pub lowOctet : ℕ → ℕ
+lowOctet n = n % 256
+
+abbrev pub highOctet : ℕ → ℕ
+highOctet n = n / 256
+
+abbrev pub markOctet : Bool → ℕ
+markOctet true = 1
+markOctet false = 0
+
+-- ---- the receiver
+
+abbrev pub lastBlockOf : ℕ → LastBlock
+lastBlockOf n = if eqb n 0 then noBlock else if eqb n 1 then blockD0 else otherBlock
+
+abbrev pub lastBlockOctet : LastBlock → ℕ
+lastBlockOctet noBlock = 0
+lastBlockOctet blockD0 = 1
+lastBlockOctet otherBlock = 2
+
+abbrev pub heldCount : Fragment → ℕ
+heldCount nothingHeld = 0
+heldCount (holds n) = n
+
+abbrev pub heldOctet : Fragment → ℕ
+heldOctet nothingHeld = 0
+heldOctet (holds n) = 1
+
+-- whether octets spell a receiver's state,
+unfoldable pub spellReceiver : List ℕ → Bool
+spellReceiver m =
+    eqb (octetAt m 0) 1 && leb (octetAt m 10) 1 && leb (octetAt m 13) 1 && leb (octetAt m 22) 2 && leb (octetAt m 23) 1 && leb (octetAt m 24) 1
+
+-- the state that they spell,
+unfoldable pub receiverIn : List ℕ → Receiver
+receiverIn m =
+    record {
+      settings = octetAt m 4;
+      turn = markAt m 10;
+      decoded = numberAt m 11;
+      held = if markAt m 13 then holds (numberAt m 14) else nothingHeld;
+      left = octetAt m 20;
+      zeros = octetAt m 21;
+      last = lastBlockOf (octetAt m 22);
+      framed = markAt m 23;
+      resumed = markAt m 24;
+      refusal = octetAt m 25;
+    }
+
+-- and the octets of a state, from the first on
+unfoldable pub receiverOctets : Receiver → List ℕ
+receiverOctets r =
+    1 ∷ 16 ∷ lowOctet 2048 ∷ highOctet 2048 ∷ r .settings ∷ 0 ∷ 0 ∷ 0 ∷ 0 ∷ 0
+    ∷ markOctet (r .turn) ∷ lowOctet (r .decoded) ∷ highOctet (r .decoded)
+    ∷ heldOctet (r .held) ∷ lowOctet (heldCount (r .held)) ∷ highOctet (heldCount (r .held)) ∷ 0 ∷ 0 ∷ 0 ∷ 0
+    ∷ r .left ∷ r .zeros ∷ lastBlockOctet (r .last) ∷ markOctet (r .framed) ∷ markOctet (r .resumed) ∷ r .refusal ∷ []
+
+-- ---- the sender
+
+abbrev pub lineOf : ℕ → OnLine
+lineOf n = if eqb n 0 then noLane else if eqb n 1 then sending low else sending high
+
+abbrev pub lineOctet : OnLine → ℕ
+lineOctet noLane = 0
+lineOctet (sending low) = 1
+lineOctet (sending high) = 2
+
+unfoldable pub spellSender : List ℕ → Bool
+spellSender m = eqb (octetAt m 0) 1 && leb (octetAt m 5) 2 && leb (octetAt m 6) 1 && leb (octetAt m 7) 1
+
+unfoldable pub senderIn : List ℕ → Sender
+senderIn m =
+    record {
+      settings = octetAt m 4;
+      on = lineOf (octetAt m 5);
+      suspended = markAt m 6;
+      cut = markAt m 7;
+      low = record { length = numberAt m 8; position = numberAt m 10 };
+      high = record { length = numberAt m 12; position = numberAt m 14 };
+      left = octetAt m 16;
+      zeros = octetAt m 17;
+    }
+
+unfoldable pub senderOctets : Sender → List ℕ
+senderOctets s =
+    1 ∷ 16 ∷ lowOctet 2048 ∷ highOctet 2048 ∷ s .settings
+    ∷ lineOctet (s .on) ∷ markOctet (s .suspended) ∷ markOctet (s .cut)
+    ∷ lowOctet (s .low .length) ∷ highOctet (s .low .length) ∷ lowOctet (s .low .position) ∷ highOctet (s .low .position)
+    ∷ lowOctet (s .high .length) ∷ highOctet (s .high .length) ∷ lowOctet (s .high .position) ∷ highOctet (s .high .position)
+    ∷ s .left ∷ s .zeros ∷ replicate 20 0
+
+-- ---- in the caller's memory
+
+-- The octets of a state over the first ones of a memory; those behind them stay.
+abbrev pub over : List ℕ → List ℕ → List ℕ
+over octets m = octets ++ drop (length octets) m

@@ -1,0 +1,155 @@
+// The receiver's state in octets (specs/Layout.antt).
+ghost use mathlib.Core.Path.{_≡_};
+ghost use Rattle.fcs.specs.Notation.{if_then_else_};
+ghost use lib.Dec.{eqb};
+ghost use Rattle.link.specs.declared.receiver.Fragment.the-variants.{NothingHeld as nothingHeld, Holds as holds};
+ghost use Rattle.link.specs.Answers.{reportAnswer};
+ghost use Rattle.kutarehopa.specs.Calls.{taken, receiverAfter};
+ghost use Rattle.kutarehopa.specs.Layout.{lastBlockOf, lastBlockOctet, heldCount, heldOctet, spellReceiver, receiverIn, receiverOctets, over};
+use link::receiver::Fragment;
+use link::receiver::LastBlock;
+use link::receiver::Receiver;
+use link::receiver::Report;
+
+fn fragment(mark: u8, count: u16) -> Fragment
+    ensures { λ r. ⌜ r ≡ (if eqb mark 1 then holds count else nothingHeld) ⌝ }
+{
+    if mark == 1 {
+        Fragment::Holds(count)
+    } else {
+        Fragment::NothingHeld
+    }
+}
+
+fn held_octet(held: Fragment) -> u8
+    ensures { λ r. ⌜ r ≡ heldOctet held ⌝ }
+{
+    match held {
+        Fragment::NothingHeld => 0,
+        Fragment::Holds(_) => 1,
+    }
+}
+
+fn held_count(held: Fragment) -> u16
+    ensures { λ r. ⌜ r ≡ heldCount held ⌝ }
+{
+    match held {
+        Fragment::NothingHeld => 0,
+        Fragment::Holds(n) => n,
+    }
+}
+
+fn last_block(n: u8) -> LastBlock
+    ensures { λ r. ⌜ r ≡ lastBlockOf n ⌝ }
+{
+    if n == 0 {
+        return LastBlock::NoBlock;
+    }
+    if n == 1 {
+        return LastBlock::BlockD0;
+    }
+    LastBlock::OtherBlock
+}
+
+fn last_octet(last: LastBlock) -> u8
+    ensures { λ r. ⌜ r ≡ lastBlockOctet last ⌝ }
+{
+    match last {
+        LastBlock::NoBlock => 0,
+        LastBlock::BlockD0 => 1,
+        LastBlock::OtherBlock => 2,
+    }
+}
+
+// Whether octets spell a state.
+pub(crate) fn spells(state: &[u8; 64]) -> bool
+    ensures { λ r. ⌜ r ≡ spellReceiver (now (state .entry)) ⌝ }
+{
+    (state[0] == 1)
+        & (state[10] <= 1)
+        & (state[13] <= 1)
+        & (state[22] <= 2)
+        & (state[23] <= 1)
+        & (state[24] <= 1)
+}
+
+// The state that they spell.
+pub(crate) fn unpack(state: &[u8; 64]) -> Receiver
+    ensures { λ r. ⌜ r ≡ receiverIn (now (state .entry)) ⌝ }
+{
+    let held = fragment(state[13], crate::number(state[14], state[15]));
+    let last = last_block(state[22]);
+    Receiver {
+        zeros: state[21],
+        resumed: state[24] == 1,
+        settings: state[4],
+        left: state[20],
+        framed: state[23] == 1,
+        last,
+        held,
+        turn: state[10] == 1,
+        refusal: state[25],
+        decoded: crate::number(state[11], state[12]),
+    }
+}
+
+// Its octets.
+pub(crate) fn pack(state: &mut [u8; 64], r: Receiver)
+    ensures { λ _. ⌜ now (state .exit) ≡ over (receiverOctets r) (now (state .entry)) ⌝ }
+{
+    // as a slice it shows its length to the proof
+    let _whole: &[u8] = state;
+    let held = r.held;
+    let last = r.last;
+    let mark = held_octet(held);
+    let count = held_count(held);
+    let block = last_octet(last);
+    state[0] = 1;
+    state[1] = 16;
+    state[2] = 0;
+    state[3] = 8;
+    state[4] = r.settings;
+    state[5] = 0;
+    state[6] = 0;
+    state[7] = 0;
+    state[8] = 0;
+    state[9] = 0;
+    state[10] = r.turn as u8;
+    state[11] = (r.decoded % 256) as u8;
+    state[12] = (r.decoded / 256) as u8;
+    state[13] = mark;
+    state[14] = (count % 256) as u8;
+    state[15] = (count / 256) as u8;
+    state[16] = 0;
+    state[17] = 0;
+    state[18] = 0;
+    state[19] = 0;
+    state[20] = r.left;
+    state[21] = r.zeros;
+    state[22] = block;
+    state[23] = r.framed as u8;
+    state[24] = r.resumed as u8;
+    state[25] = r.refusal;
+}
+
+// Whether a call was taken: 2 and 3 refuse it, 5 to 14 are reports of a frame.
+fn taken(report: Report) -> bool
+    ensures { λ r. ⌜ r ≡ taken (reportAnswer report) ⌝ }
+{
+    match report {
+        Report::Quiet => true,
+        Report::Packet { .. } => true,
+        Report::Held { .. } => true,
+        Report::Refused(n) => 5 <= n,
+    }
+}
+
+// The octets after a call.
+pub(crate) fn keep(state: &mut [u8; 64], report: Report, after: Receiver)
+    ensures { λ _. ⌜ now (state .exit) ≡ receiverAfter (now (state .entry)) (reportAnswer report) after ⌝ }
+{
+    if !taken(report) {
+        return;
+    }
+    pack(state, after);
+}

@@ -1,0 +1,133 @@
+/* Kutarehopa: the two ends of a PPP link framed with COBS and preemption, for C99 and C++. CLIBRARY.md is the guide, READING.md the
+ * protocol (docs/ in the sources, share/doc/kutarehopa where it is installed).
+ *
+ * Every call is proved to answer, and to leave its state and its areas, as crates/kutarehopa/specs says, whatever octets, lengths and
+ * states it is handed. Nothing checks the caller, though: every pointer must be valid for the length that goes with it (with length 0 it
+ * may be NULL), a state is 64 octets, and no two of the memories that one call is handed may overlap, packets and octets of the line
+ * included.
+ *
+ * A call keeps nothing of its own: it uses no heap, no global data and no system call. Calls that share no memory may be made at the same
+ * time. A state does not say of which end it is: nobody notices where a sender's is handed to a receiver's call. For x86-64 Linux. */
+#ifndef KUTAREHOPA_H
+#define KUTAREHOPA_H
+
+#include <stddef.h>
+#include <stdint.h>
+
+#ifdef __cplusplus
+extern "C" {
+#endif
+
+#define KUTAREHOPA_VERSION "0.1"
+
+/* ---- Lengths, in octets */
+
+#define KUTA_STATE 64            /* a state, of either end */
+#define KUTA_LEAST_PACKET 2      /* the shortest and the longest packet */
+#define KUTA_LARGEST_PACKET 2048
+#define KUTA_SENDER_AREA 2050    /* the least length of the areas low and high */
+#define KUTA_RECEIVER_AREA 2051  /* the least length of the areas first and second */
+
+/* ---- Settings: what both ends agreed on. Other bits are ignored. */
+
+#define KUTA_ZXE 1 /* zero runs and pairs, the codes D3-FE */
+#define KUTA_PRE 2 /* preemption: a low packet may be broken off and resumed */
+
+/* ---- Answers
+ *
+ * What a call answers is a number of 32 bits: the highest octet is its kind, bit 16 a mark, the low 16 bits a value; 0 where there is none.
+ * The names are of kinds: compare kuta_kind(answer) with them, not the answer. */
+
+enum kuta_kinds {
+    KUTA_QUIET = 0,   /* nothing to report; as a whole number 0 too */
+    KUTA_PACKET = 1,  /* mark: it is in the second area, else in the first; value: its length */
+    KUTA_HELD = 2,    /* a packet was broken off; mark: an older fragment was given up for it; value: octets held */
+    KUTA_REFUSED = 3, /* value: the refusal's number, below */
+    KUTA_DONE = 4,    /* the load or the opening was done */
+    KUTA_OCTET = 5,   /* value: the octet to send */
+    KUTA_IDLE = 6     /* there is nothing to send */
+};
+
+/* The kind, the mark (0 or 1) and the value of an answer. */
+static inline unsigned kuta_kind(uint32_t answer) { return (unsigned)(answer >> 24); }
+static inline unsigned kuta_mark(uint32_t answer) { return (unsigned)(answer >> 16 & 1); }
+static inline unsigned kuta_value(uint32_t answer) { return (unsigned)(answer & 0xFFFF); }
+
+/* Refusals. 1 to 4 refuse a call, which has then changed no octet of its state and of its areas. They are tested in the order 2, 3, 4, 1. 5
+ * to 14 are what the receiver reports of a frame that brings no packet; the call itself was taken. */
+enum kuta_refusals {
+    KUTA_BAD_LENGTH = 1,      /* load: a packet of fewer than 2 or more than 2,048 octets */
+    KUTA_SHORT_AREA = 2,      /* an area is shorter than its least length */
+    KUTA_BAD_STATE = 3,       /* the octets are no state (CLIBRARY.md), or one out of bounds (READING.md) */
+    KUTA_LANE_LOADED = 4,     /* load: the lane's last packet is not sent yet */
+    KUTA_PLAIN_FRAME = 5,     /* it begins FF: plain PPP, a restart of the link */
+    KUTA_NOT_AGREED = 6,      /* a code that the settings do not allow */
+    KUTA_NO_CODE = 7,         /* an octet that is no code here */
+    KUTA_NOTHING_HELD = 8,    /* it resumes a packet, and nothing is held */
+    KUTA_NOTHING_RESUMED = 9, /* it resumes a packet and ends at once */
+    KUTA_TOO_LONG = 10,       /* more octets than any frame has */
+    KUTA_CUT_OFF = 11,        /* it ends inside a block, and preemption is off */
+    KUTA_UNFINISHED = 12,     /* it ends behind a block D0, which another must follow */
+    KUTA_TOO_SHORT = 13,      /* fewer octets than a packet and its FCS */
+    KUTA_BAD_CHECK = 14       /* the FCS is wrong */
+};
+
+/* ---- The receiver
+ *
+ * It is lent two areas, the same two at every call: one takes in what comes, the other holds what is kept of a packet that was broken off.
+ * Between calls nobody else writes to them. */
+
+/* Opens a receiver, whatever the state held before. Answers KUTA_DONE. */
+uint32_t kuta_receiver_open(uint8_t state[KUTA_STATE], uint8_t settings);
+
+/* Takes the next octet of the line. Answers KUTA_QUIET, KUTA_PACKET, KUTA_HELD or KUTA_REFUSED.
+ * A packet stays where it is until the next call of this receiver.
+ * Refused 2: first or second has fewer than KUTA_RECEIVER_AREA octets. Refused 3. Refused 5 to 14: reports of a frame. */
+uint32_t kuta_receive(uint8_t state[KUTA_STATE], uint8_t octet, uint8_t *first, size_t first_length, uint8_t *second, size_t second_length);
+
+/* How far a stretch of a line was read or written. */
+typedef struct kuta_stretch {
+    uint32_t answer; /* of the last call that was made for it; KUTA_QUIET, where none was */
+    size_t octets;   /* how many octets were used, or written */
+} kuta_stretch;
+
+/* Takes octets of the line, up to and with the first that is answered by anything but KUTA_QUIET: the same as kuta_receive for each of
+ * them, and faster. `octets` tells how many were used: go on behind them. It is 1 at least, where there were any; where the call is
+ * refused 2 or 3 it is 1, and that octet was not taken in. Of no octets at all nothing is tested: KUTA_QUIET and 0. */
+kuta_stretch kuta_read_on(uint8_t state[KUTA_STATE], const uint8_t *octets, size_t octets_length, uint8_t *first, size_t first_length,
+                          uint8_t *second, size_t second_length);
+
+/* ---- The sender
+ *
+ * It has two lanes, low and high, and is lent an area for each, the same at every call. A high packet goes before a low one, and breaks it
+ * off where preemption was agreed. Between the load of a packet and its closing flag nobody else writes to its area. */
+
+/* Opens a sender, whatever the state held before. Answers KUTA_DONE. */
+uint32_t kuta_sender_open(uint8_t state[KUTA_STATE], uint8_t settings);
+
+/* Loads a packet into a lane; `area` is that lane's. Answers KUTA_DONE: the packet is copied to the area, and its octets are free again.
+ * Refused 2: the area has fewer than KUTA_SENDER_AREA octets. Refused 3. Refused 4: the lane's packet is not sent yet, and only a load
+ * tells so. Refused 1. */
+uint32_t kuta_load_low(uint8_t state[KUTA_STATE], const uint8_t *packet, size_t packet_length, uint8_t *area, size_t area_length);
+uint32_t kuta_load_high(uint8_t state[KUTA_STATE], const uint8_t *packet, size_t packet_length, uint8_t *area, size_t area_length);
+
+/* The next octet to send. Answers KUTA_OCTET, KUTA_IDLE or KUTA_REFUSED, and in the last two cases changes nothing.
+ * Refused 2: low or high has fewer than KUTA_SENDER_AREA octets. Refused 3. */
+uint32_t kuta_next(uint8_t state[KUTA_STATE], const uint8_t *low, size_t low_length, const uint8_t *high, size_t high_length);
+
+/* Writes the next octets to `line`, up to and with the first flag (7E), as far as there is room: the same as kuta_next for each of them,
+ * and faster. `octets` tells how many were written. The answer is KUTA_OCTET with the last of them: a flag closes a packet, or breaks a
+ * low one off. Where none was written, it is KUTA_IDLE or KUTA_REFUSED. With no room at all nothing is tested: KUTA_QUIET and 0. What
+ * lies behind the octets written stays. */
+kuta_stretch kuta_write_on(uint8_t state[KUTA_STATE], const uint8_t *low, size_t low_length, const uint8_t *high, size_t high_length,
+                           uint8_t *line, size_t line_length);
+
+/* ---- RFC 1662's check sequence: the register, from `start` on (FFFF), over octets. A weak symbol: a program's own goes before it. */
+
+uint16_t pppfcs16(uint16_t start, const uint8_t *octets, size_t octets_length);
+
+#ifdef __cplusplus
+}
+#endif
+
+#endif

@@ -1,0 +1,465 @@
+#!/usr/bin/env python3
+r"""Captures of PPP over COBS with preemption, read and written by Kutarehopa's proved C library.
+
+A capture is any octets: bytes, a path, or a file. Each frame that a flag closes gives one report.
+
+    >>> import kutarehopa as kuta
+    >>> capture = kuta.line([b"123456789", b"\0\0"]) + b"\x05\x31\x7e"
+    >>> for report in kuta.reports(capture):
+    ...     print(report.place, report)
+    12 P 9 31 32 33 34 35 36 37 38 39
+    17 P 2 00 00
+    20 H 1 0
+    >>> [report.octets for report in kuta.reports(capture) if isinstance(report, kuta.Packet)]
+    [b'123456789', b'\x00\x00']
+    >>> counts = kuta.tally(kuta.reports(capture))
+    >>> counts["packets"], counts["held"], sum(counts.values())
+    (2, 1, 3)
+
+A Receiver is fed a line as it comes, a Sender makes one. Here an urgent packet breaks off another one:
+
+    >>> sender, receiver = kuta.Sender(), kuta.Receiver()
+    >>> sender.load(b"123456789")
+    >>> receiver.feed(sender.write(4))
+    []
+    >>> sender.load(b"urgent", urgent=True)
+    >>> for report in receiver.feed(sender.rest()):
+    ...     report
+    Held(count=3, replaced=False, place=4)
+    Packet(octets=b'urgent', place=14)
+    Packet(octets=b'123456789', place=25)
+
+`python3 -m kutarehopa FILE..` prints what the program capture prints. docs/READING.md has the protocol, and says what
+a loss rate may count.
+"""
+import argparse
+import ctypes
+import errno
+import operator
+import os
+import sys
+import threading
+from dataclasses import dataclass
+from typing import BinaryIO, Dict, Iterable, Iterator, List, Optional, Union
+
+__all__ = ["ZXE", "PRE", "Report", "Packet", "Held", "Refused", "RefusedCall", "LaneBusy", "Receiver", "Sender",
+           "reports", "tally", "line", "pppfcs16"]
+
+ZXE = 1  # settings: zero runs and pairs, the codes D3 to FE
+PRE = 2  # settings: a packet may be broken off for an urgent one, and resumed
+
+
+# ---- The library
+
+class _Stretch(ctypes.Structure):
+    _fields_ = [("answer", ctypes.c_uint32), ("octets", ctypes.c_size_t)]
+
+
+def _declared(library):
+    """The library, its calls with the types of kutarehopa.h."""
+    answer, octets, length, settings = ctypes.c_uint32, ctypes.c_void_p, ctypes.c_size_t, ctypes.c_uint8
+    for name, result, *arguments in (
+            ("kuta_receiver_open", answer, octets, settings),
+            ("kuta_receive", answer, octets, ctypes.c_uint8, octets, length, octets, length),
+            ("kuta_read_on", _Stretch, octets, octets, length, octets, length, octets, length),
+            ("kuta_sender_open", answer, octets, settings),
+            ("kuta_load_low", answer, octets, octets, length, octets, length),
+            ("kuta_load_high", answer, octets, octets, length, octets, length),
+            ("kuta_write_on", _Stretch, octets, octets, length, octets, length, octets, length),
+            ("pppfcs16", ctypes.c_uint16, ctypes.c_uint16, octets, length)):
+        call = getattr(library, name)
+        call.restype, call.argtypes = result, arguments
+    return library
+
+
+def _load():
+    """The library that the environment names; else the checkout's, where there is one; else the system's."""
+    named = os.environ.get("KUTAREHOPA_LIBRARY")
+    checkout = os.path.dirname(os.path.dirname(os.path.realpath(__file__)))
+    built = os.path.join(checkout, "target", "lib", "libkutarehopa.so")
+    # The system's by its soname, which another version would not have.
+    tried = []
+    in_checkout = os.path.exists(os.path.join(checkout, "crates.txt"))
+    for path in [named] if named else [built, "libkutarehopa.so.0"] if in_checkout else ["libkutarehopa.so.0"]:
+        try:
+            return _declared(ctypes.CDLL(path))
+        except (OSError, AttributeError) as why:
+            tried.append(f"  {why}")
+            if path == built and os.path.exists(built):
+                break  # a broken build is a fault, not a reason to take another library
+    advice = "Let KUTAREHOPA_LIBRARY name a libkutarehopa.so for this machine, or unset it." if named else \
+        "Run `make` in the checkout of Kutarehopa. Where the library is installed, the system's linker may not know " \
+        "its folder: let the environment variable KUTAREHOPA_LIBRARY name the libkutarehopa.so. It is for x86-64 Linux."
+    raise ImportError("\n".join(["the C library libkutarehopa cannot be loaded. Tried:", *tried, advice]))
+
+
+_library = _load()
+
+_STATE, _SENDER_AREA, _RECEIVER_AREA = 64, 2050, 2051
+_PACKET, _HELD, _REFUSED = 1, 2, 3  # kinds of answers
+_PIECE = 65536  # how many octets of a capture are read at a time
+_ROOM = 4096    # more than any frame takes on the line, with its flag
+
+
+def _octets(given, what="octets"):
+    """What was given, as bytes. Only buffers of single octets are taken."""
+    if isinstance(given, bytes):
+        return given
+    try:
+        view = memoryview(given)
+    except TypeError:
+        hint = {str: ": open a capture with 'rb', and text.encode() makes octets of a text",
+                int: ": bytes((n,)) is the octet n"}.get(type(given), "")
+        raise TypeError(f"{what} must be bytes or a buffer of octets, not {type(given).__name__}{hint}") from None
+    if view.ndim != 1 or view.format.lstrip("@=<>!") not in ("B", "b", "c"):
+        raise TypeError(f"{what} must be one row of single octets, not a buffer of {view.ndim} dimension(s) and "
+                        f"format {view.format!r}")
+    return view.tobytes()
+
+
+def _number(given, least, most, what):
+    number = operator.index(given)
+    if not least <= number <= most:
+        raise ValueError(f"{what} must be from {least} to {most}, not {number}")
+    return number
+
+
+# ---- Reports and refusals
+
+_REASONS = {
+    1: "a packet must have 2 to 2,048 octets",
+    2: "an area is too short",
+    3: "this is no state that the calls make",
+    4: "the lane still has a packet to send",
+    5: "the first octet is FF, as in plain PPP",
+    6: "there is a code that the settings do not allow",
+    7: "there is no code where one must stand",
+    8: "the rest of a packet came, and no beginning is held",
+    9: "the rest of a packet came, and was empty",
+    10: "the frame is longer than the longest packet makes it",
+    11: "the frame ends inside a block, and packets are not broken off here",
+    12: "the frame ends with D0, a block that is never the last",
+    13: "the frame is shorter than the shortest packet makes it",
+    14: "the check sequence is wrong",
+}
+
+
+class Report:
+    """What a receiver says of a frame: a Packet, Held or Refused. str() of it is the line that capture prints.
+
+    place: at which octet of the line it was reported, the first being 0. This is the flag that closed the frame.
+    counted_as: the name of the count that it raises, see tally.
+    """
+    place: int
+    counted_as: str
+
+
+@dataclass(frozen=True)
+class Packet(Report):
+    """A packet arrived whole: its octets, without the check sequence."""
+    octets: bytes
+    place: int
+
+    counted_as = "packets"
+
+    def __str__(self):
+        return f"P {len(self.octets)} {self.octets.hex(' ').upper()}"
+
+
+@dataclass(frozen=True)
+class Held(Report):
+    """A frame ended inside a block, as a packet does that is broken off: how many octets are held of it, and whether
+    an older fragment was given up for them."""
+    count: int
+    replaced: bool
+    place: int
+
+    @property
+    def counted_as(self):
+        return "held-replaced" if self.replaced else "held"
+
+    def __str__(self):
+        return f"H {self.count} {int(self.replaced)}"
+
+
+@dataclass(frozen=True)
+class Refused(Report):
+    """A frame was refused: by which number, 5 to 14, and for what reason."""
+    number: int
+    place: int
+
+    @property
+    def reason(self):
+        return _REASONS[self.number]
+
+    @property
+    def counted_as(self):
+        return f"refused-{self.number}"
+
+    def __str__(self):
+        return f"R {self.number}"
+
+
+class RefusedCall(Exception):
+    """A call was refused, and changed nothing: number, 1 to 4, and reason."""
+
+    def __init__(self, number):
+        super().__init__(number)
+        self.number, self.reason = number, _REASONS[number]
+
+    def __str__(self):
+        return f"{self.reason} (refusal {self.number})"
+
+
+class LaneBusy(RefusedCall):
+    """A packet was to be loaded, and the lane's last one is not sent yet."""
+
+
+def _refused(number):
+    return LaneBusy(number) if number == 4 else RefusedCall(number)
+
+
+# ---- The two ends
+
+class _End:
+    """What both ends are: a state and two areas in memory of their own. Copies, and ends pickled, go their own way."""
+
+    def _own(self, area):
+        self._state = (ctypes.c_uint8 * _STATE)()
+        self._areas = (ctypes.c_uint8 * area)(), (ctypes.c_uint8 * area)()
+        self._lent = self._areas[0], area, self._areas[1], area
+        self._place = 0
+        self._lock = threading.Lock()  # a call of the library lets other threads run
+
+    @property
+    def state(self) -> bytes:
+        """The 64 octets of the state. save() has the areas too."""
+        return bytes(self._state)
+
+    @property
+    def settings(self) -> int:
+        return self._state[4]
+
+    def save(self) -> bytes:
+        """All that the end is, for restore: its state, how many octets of the line it has seen, its areas."""
+        with self._lock:
+            return b"".join((self._state, self._place.to_bytes(8, "little"), *self._areas))
+
+    @classmethod
+    def restore(cls, saved: bytes):
+        """An end as it was when it was saved."""
+        saved, end = _octets(saved, "what was saved"), cls()
+        area = len(end._areas[0])
+        if len(saved) != _STATE + 8 + 2 * area:
+            raise ValueError(f"no {cls.__name__} was saved as {len(saved)} octets")
+        end._state[:] = saved[:_STATE]
+        end._place = int.from_bytes(saved[_STATE:_STATE + 8], "little")
+        end._areas[0][:], end._areas[1][:] = saved[-2 * area:-area], saved[-area:]
+        if end._probe() == _REFUSED << 24 | 3:
+            raise RefusedCall(3)
+        return end
+
+    def __reduce__(self):
+        return self.restore, (self.save(),)
+
+
+class Receiver(_End):
+    """The receiving end of a line."""
+
+    def __init__(self, settings: int = ZXE | PRE):
+        settings = _number(settings, 0, 255, "settings")
+        self._own(_RECEIVER_AREA)
+        _library.kuta_receiver_open(self._state, settings)
+
+    def __repr__(self):
+        return f"<Receiver, settings {self.settings}, {self._place} octets read>"
+
+    @property
+    def place(self) -> int:
+        """How many octets of the line were fed."""
+        return self._place
+
+    def feed(self, octets) -> List[Report]:
+        """Takes the next octets of the line, any number of them, and gives the reports they bring."""
+        octets, found = _octets(octets), []
+        at, left = ctypes.cast(octets, ctypes.c_void_p).value, len(octets)
+        with self._lock:
+            while left > 0:
+                stretch = _library.kuta_read_on(self._state, at, left, *self._lent)
+                at, left, self._place = at + stretch.octets, left - stretch.octets, self._place + stretch.octets
+                if stretch.answer:
+                    found.append(self._report(stretch.answer, self._place - 1))
+        return found
+
+    def _report(self, answer, place):
+        kind, mark, value = answer >> 24, answer >> 16 & 1, answer & 0xFFFF
+        if kind == _PACKET:
+            return Packet(ctypes.string_at(self._areas[mark], value), place)
+        if kind == _HELD:
+            return Held(value, bool(mark), place)
+        if value < 5:
+            raise _refused(value)
+        return Refused(value, place)
+
+    def _probe(self):
+        """How the state answers a flag, tried on a copy. A flag writes to no area."""
+        return _library.kuta_receive((ctypes.c_uint8 * _STATE)(*self._state), 0x7E, *self._lent)
+
+
+class Sender(_End):
+    """The sending end of a line. It has two lanes, with room for one packet each; an urgent packet goes first, and
+    with PRE breaks off the other."""
+
+    def __init__(self, settings: int = ZXE | PRE):
+        settings = _number(settings, 0, 255, "settings")
+        self._own(_SENDER_AREA)
+        _library.kuta_sender_open(self._state, settings)
+
+    def __repr__(self):
+        return f"<Sender, settings {self.settings}, {self._place} octets written>"
+
+    @property
+    def place(self) -> int:
+        """How many octets of the line were written."""
+        return self._place
+
+    def load(self, packet, urgent: bool = False) -> None:
+        """Loads a packet. LaneBusy: the lane's last one must be written first. RefusedCall 1: its length."""
+        packet = _octets(packet, "a packet")
+        load = _library.kuta_load_high if urgent else _library.kuta_load_low
+        with self._lock:
+            answer = load(self._state, packet, len(packet), self._areas[bool(urgent)], _SENDER_AREA)
+        if answer >> 24 == _REFUSED:
+            raise _refused(answer & 0xFFFF)
+
+    def write(self, most: Optional[int] = None) -> bytes:
+        """The next octets of the line: up to and with the next flag, and no more than `most`. b"" if all is sent."""
+        room = _ROOM if most is None else min(_ROOM, _number(most, 1, sys.maxsize, "most"))
+        octets = (ctypes.c_uint8 * room)()
+        with self._lock:
+            stretch = _library.kuta_write_on(self._state, *self._lent, octets, room)
+            self._place += stretch.octets
+        if stretch.answer >> 24 == _REFUSED:
+            raise _refused(stretch.answer & 0xFFFF)
+        return ctypes.string_at(octets, stretch.octets)
+
+    def rest(self) -> bytes:
+        """All octets that the loaded packets still take."""
+        return b"".join(iter(self.write, b""))
+
+    def _probe(self):
+        """How the state answers a packet too short to be loaded."""
+        return _library.kuta_load_low(self._state, None, 0, self._areas[0], _SENDER_AREA)
+
+
+# ---- Whole lines
+
+def line(packets: Iterable[bytes], settings: int = ZXE | PRE) -> bytes:
+    """The octets of a line that carries these packets one after the other."""
+    if isinstance(packets, (str, bytes, bytearray, memoryview)):
+        raise TypeError("line wants packets, not one packet: line([packet])")
+    sender, parts = Sender(settings), []
+    for packet in packets:
+        sender.load(packet)
+        parts.append(sender.rest())
+    return b"".join(parts)
+
+
+def reports(capture: Union[str, os.PathLike, BinaryIO, bytes], settings: int = ZXE | PRE) -> Iterator[Report]:
+    """The reports of a whole capture: of a path (str or Path), a file open for reading octets, or octets.
+
+    Files are read in pieces, and reports come as soon as their octets are there. What follows the last flag gives none.
+    """
+    receiver = Receiver(settings)
+    if isinstance(capture, (str, os.PathLike)):
+        return _of_path(receiver, capture)
+    if hasattr(capture, "read"):
+        return _of_file(receiver, capture)
+    octets = memoryview(_octets(capture, "a capture"))
+    return (report for at in range(0, len(octets), _PIECE) for report in receiver.feed(octets[at:at + _PIECE]))
+
+
+def _of_path(receiver, path):
+    with open(path, "rb") as file:
+        yield from _of_file(receiver, file)
+
+
+def _of_file(receiver, file):
+    read = getattr(file, "read1", file.read)  # read1 does not wait for a whole piece
+    while True:
+        piece = _octets(read(_PIECE), "what a file reads")
+        if not piece:
+            return
+        yield from receiver.feed(piece)
+
+
+def tally(of: Iterable[Report]) -> Dict[str, int]:
+    """The thirteen counts that the program count prints, by their names and in its order.
+
+    Each report raises one of them, so their sum is the number of frames. To count several captures together, chain
+    their reports.
+    """
+    counts = dict.fromkeys(["packets", "held", "held-replaced", *(f"refused-{number}" for number in range(5, 15))], 0)
+    for report in of:
+        if not isinstance(report, Report):
+            raise TypeError(f"tally counts reports, not {type(report).__name__}: tally(reports(capture))")
+        counts[report.counted_as] += 1
+    return counts
+
+
+def pppfcs16(octets, start: int = 0xFFFF) -> int:
+    """RFC 1662's register over octets. Behind a packet goes its complement, low octet first."""
+    octets = _octets(octets)
+    return _library.pppfcs16(_number(start, 0, 0xFFFF, "start"), octets, len(octets))
+
+
+# ---- As a program
+
+def _print_all(names):
+    """The lines of each file, under its name where there are several; whether all could be read."""
+    gap, good = "", True
+    for name in names:
+        shown = "standard input" if name == "-" else name or "''"
+        try:
+            with open(0 if name == "-" else name, "rb", closefd=name != "-") as file:
+                first = file.read1(1)  # nothing is printed of a file that cannot be read
+                if len(names) > 1:
+                    print(f"{gap}==> {shown} <==")
+                    gap = "\n"
+                receiver = Receiver()
+                piece = first
+                while piece:
+                    for report in receiver.feed(piece):
+                        print(report)
+                    sys.stdout.flush()  # a live line is shown as it comes
+                    piece = file.read1(_PIECE)
+        except OSError as why:
+            if isinstance(why, BrokenPipeError) or why.errno == errno.ENOSPC:
+                raise
+            print(f"kutarehopa: {shown}: cannot be read: {why.strerror}", file=sys.stderr)
+            good = False
+    return good
+
+
+def _main():
+    parser = argparse.ArgumentParser(prog="kutarehopa", description="Reads captures (settings 3) and prints a line for "
+                                     "each report: P, a packet; H, a fragment held; R, a refused frame.")
+    parser.add_argument("files", nargs="*", metavar="FILE", default=["-"], help="- or none is standard input")
+    names = parser.parse_args().files
+    if sys.stdout is None:
+        sys.exit("kutarehopa: standard output: cannot be written: Bad file descriptor")
+    try:
+        good = _print_all(names)
+        sys.stdout.flush()
+        return 0 if good else 1
+    except BrokenPipeError:
+        status = 141  # nobody reads on
+    except OSError as why:
+        print(f"kutarehopa: standard output: cannot be written: {why.strerror}", file=sys.stderr)
+        status = 1
+    os.dup2(os.open(os.devnull, os.O_WRONLY), sys.stdout.fileno())
+    return status
+
+
+if __name__ == "__main__":
+    sys.exit(_main())

@@ -1,0 +1,455 @@
+#!/usr/bin/env python3
+"""Tests of kutarehopa.py: python3 python/test_kutarehopa.py, with the library built or named by KUTAREHOPA_LIBRARY."""
+import array
+import copy
+import ctypes
+import doctest
+import glob
+import gzip
+import io
+import os
+import pathlib
+import pickle
+import random
+import shutil
+import subprocess
+import sys
+import tempfile
+import threading
+import unittest
+
+import kutarehopa as kuta
+from kutarehopa import Held, LaneBusy, Packet, Receiver, Refused, RefusedCall, Sender
+
+HERE = os.path.dirname(os.path.abspath(__file__))
+ROOT = os.path.dirname(HERE)
+CAPTURES = sorted(glob.glob(os.path.join(ROOT, "tests", "captures", "*.octets"))
+                  + glob.glob(os.path.join(ROOT, "examples", "*.octets")))
+NINE = b"123456789"
+NINE_SENT = b"\x0c123456789\x6e\x90\x7e"
+# A packet broken off behind three octets, an urgent one, the rest of the first, and a frame that is too short.
+MARKED = b"\x0c123\x7e" + NINE_SENT + b"\xd1\x09456789\x6e\x90\x7e" + b"\xd3\x7e"
+MARKED_REPORTS = [Held(3, False, 4), Packet(NINE, 17), Packet(NINE, 28), Refused(13, 30)]
+
+
+def octets_of(path):
+    with open(path, "rb") as file:
+        return file.read()
+
+
+def stored(path, ending):
+    with open(path[:-len("octets")] + ending) as file:
+        return file.read()
+
+
+def lines(found):
+    return "".join(f"{report}\n" for report in found)
+
+
+def pieces(octets, rng, longest):
+    at = 0
+    while at < len(octets):
+        length = rng.randint(0, longest)
+        yield octets[at:at + length]
+        at += length
+
+
+def random_packet(rng):
+    length = rng.choice((2, 3, 30, 31, 207, 208, 2047, 2048, rng.randint(2, 2048)))
+    return bytes(rng.choice((0, 0, 0x7E, rng.randrange(256))) for _ in range(length))
+
+
+class StoredCaptures(unittest.TestCase):
+    def each(self, read):
+        """Reads every stored capture so, and holds its lines and counts against what is stored."""
+        self.assertGreater(len(CAPTURES), 12)
+        for path in CAPTURES:
+            with self.subTest(capture=os.path.basename(path)):
+                found = list(read(path))
+                self.assertEqual(lines(found), stored(path, "lines"))
+                counts = kuta.tally(found)
+                self.assertEqual("".join(f"{name} {count}\n" for name, count in counts.items()), stored(path, "counts"))
+                octets = octets_of(path)
+                self.assertTrue(all(octets[report.place] == 0x7E for report in found))
+                self.assertEqual(sorted({report.place for report in found}), [report.place for report in found])
+
+    def test_whole(self):
+        self.each(lambda path: Receiver().feed(octets_of(path)))
+
+    def test_octet_by_octet(self):
+        def read(path):
+            receiver = Receiver()
+            for place, octet in enumerate(octets_of(path)):
+                found = receiver.feed(bytes((octet,)))
+                self.assertTrue(len(found) <= 1 and all(report.place == place for report in found))
+                self.assertEqual(receiver.place, place + 1)
+                yield from found
+        self.each(read)
+
+    def test_random_pieces(self):
+        rng = random.Random(1)
+
+        def read(path):
+            receiver = Receiver()
+            for piece in pieces(octets_of(path), rng, rng.choice((3, 50, 1000))):
+                yield from receiver.feed(piece)
+        for _ in range(3):
+            self.each(read)
+
+    def test_pieces_give_the_same_reports(self):
+        rng = random.Random(2)
+        for path in CAPTURES:
+            octets, receiver = octets_of(path), Receiver()
+            found = [report for piece in pieces(octets, rng, 200) for report in receiver.feed(piece)]
+            self.assertEqual(found, Receiver().feed(octets))
+
+    def test_path(self):
+        self.each(kuta.reports)
+        self.each(lambda path: kuta.reports(pathlib.Path(path)))
+
+    def test_file(self):
+        def read(path):
+            with open(path, "rb", buffering=0) as file:
+                yield from kuta.reports(file)
+        self.each(read)
+        self.each(lambda path: kuta.reports(io.BytesIO(octets_of(path))))
+        self.each(lambda path: kuta.reports(gzip.GzipFile(fileobj=io.BytesIO(gzip.compress(octets_of(path))))))
+
+    def test_octets(self):
+        self.each(lambda path: kuta.reports(octets_of(path)))
+
+    def test_more_than_a_piece(self):
+        octets = NINE_SENT * 20000
+        for capture in (octets, io.BytesIO(octets)):
+            for number, report in enumerate(kuta.reports(capture)):
+                self.assertEqual(report, Packet(NINE, 13 * number + 12))
+            self.assertEqual(number, 19999)
+
+
+class Receiving(unittest.TestCase):
+    def test_reports(self):
+        self.assertEqual(Receiver().feed(MARKED), MARKED_REPORTS)
+        self.assertEqual(lines(MARKED_REPORTS), "H 3 0\nP 9 31 32 33 34 35 36 37 38 39\n"
+                         "P 9 31 32 33 34 35 36 37 38 39\nR 13\n")
+
+    def test_reports_come_as_soon_as_they_can(self):
+        reading, writing = os.pipe()
+        with open(reading, "rb") as file:
+            found = kuta.reports(file)
+            os.write(writing, NINE_SENT)
+            self.assertEqual(next(found), Packet(NINE, 12))
+            os.write(writing, NINE_SENT)
+            self.assertEqual(next(found), Packet(NINE, 25))
+            os.close(writing)
+            self.assertEqual(list(found), [])
+
+    def test_settings(self):
+        self.assertEqual(kuta.ZXE | kuta.PRE, 3)
+        self.assertEqual(Receiver(0).feed(b"\xd3\x7e\x05\x31\x7e"), [Refused(6, 1), Refused(11, 4)])
+        self.assertEqual(Receiver(kuta.PRE).feed(b"\xd3\x7e\x05\x31\x7e"), [Refused(6, 1), Held(1, False, 4)])
+        self.assertEqual([type(report) for report in kuta.reports(MARKED, 0)], [Refused, Packet, Refused, Refused])
+        self.assertEqual(Receiver(0xFF).settings, 0xFF)
+        for wrong, error in ((-1, ValueError), (256, ValueError), ("3", TypeError), (None, TypeError)):
+            for take in (Receiver, Sender, lambda settings: kuta.reports(b"", settings)):
+                with self.assertRaises(error):
+                    take(wrong)
+
+    def test_reasons(self):
+        for number in range(5, 15):
+            self.assertGreater(len(Refused(number, 0).reason), 10)
+
+    def test_reports_do_not_change(self):
+        for report in MARKED_REPORTS:
+            with self.assertRaises(AttributeError):
+                report.place = 0
+            self.assertEqual(hash(report), hash(copy.copy(report)))
+            self.assertEqual(pickle.loads(pickle.dumps(report)), report)
+        self.assertNotEqual(Held(13, False, 30), Refused(13, 30))
+        receiver = Receiver()
+        first = receiver.feed(NINE_SENT)
+        receiver.feed(kuta.line([b"another packet"]) * 3)
+        self.assertEqual(first, [Packet(NINE, 12)])
+
+    def test_buffers(self):
+        backwards = memoryview(MARKED[::-1])[::-1]
+        for octets in (MARKED, bytearray(MARKED), memoryview(MARKED), array.array("B", MARKED), backwards,
+                       (ctypes.c_uint8 * len(MARKED))(*MARKED), memoryview(MARKED).cast("c")):
+            self.assertEqual(Receiver().feed(octets), MARKED_REPORTS)
+            self.assertEqual(list(kuta.reports(octets)), MARKED_REPORTS)
+        self.assertEqual(Receiver().feed(b""), [])
+
+    def test_wrong_types(self):
+        receiver = Receiver()
+        for wrong in ("123", 126, None, [0x7E], 1.5, array.array("H", [0x7E]), array.array("d", [1]),
+                      memoryview(bytes(4)).cast("B", (2, 2)), memoryview(bytes(4)).cast("?")):
+            with self.assertRaises(TypeError):
+                receiver.feed(wrong)
+            with self.assertRaises(TypeError):
+                Sender().load(wrong)
+            with self.assertRaises(TypeError):
+                kuta.pppfcs16(wrong)
+            if not isinstance(wrong, str):
+                with self.assertRaises(TypeError):
+                    kuta.reports(wrong)
+        self.assertEqual(receiver.place, 0)
+        with self.assertRaisesRegex(TypeError, "'rb'"):
+            receiver.feed("123")
+        for text in (io.StringIO("123"), io.StringIO()):
+            with self.assertRaisesRegex(TypeError, "'rb'"):
+                list(kuta.reports(text))
+        with self.assertRaises(FileNotFoundError):
+            list(kuta.reports("no such capture"))
+
+    def test_threads(self):
+        """Several feeds at once: one comes after the other, in whatever order."""
+        receiver, found = Receiver(), []
+        threads = [threading.Thread(target=lambda: found.append(receiver.feed(NINE_SENT * 3000))) for _ in range(4)]
+        interval = sys.getswitchinterval()
+        sys.setswitchinterval(1e-6)
+        for thread in threads:
+            thread.start()
+        for thread in threads:
+            thread.join()
+        sys.setswitchinterval(interval)
+        self.assertEqual([report.place for feed in sorted(found, key=lambda feed: feed[0].place) for report in feed],
+                         list(range(12, 13 * 12000, 13)))
+
+
+class Tallying(unittest.TestCase):
+    def test_names(self):
+        names = ["packets", "held", "held-replaced"] + [f"refused-{number}" for number in range(5, 15)]
+        self.assertEqual(list(kuta.tally([])), names)
+
+    def test_counts(self):
+        counts = kuta.tally(MARKED_REPORTS + [Held(1, True, 40)])
+        self.assertEqual({name: count for name, count in counts.items() if count},
+                         {"packets": 2, "held": 1, "held-replaced": 1, "refused-13": 1})
+        self.assertEqual(sum(counts.values()), 5)
+
+    def test_wrong_types(self):
+        for wrong in (MARKED, "path", [1]):
+            with self.assertRaises(TypeError):
+                kuta.tally(wrong)
+
+
+class Sending(unittest.TestCase):
+    def test_whole(self):
+        sender = Sender()
+        self.assertEqual(sender.write(), b"")
+        sender.load(NINE)
+        self.assertEqual([sender.write(5), sender.write(1), sender.write()],
+                         [NINE_SENT[:5], NINE_SENT[5:6], NINE_SENT[6:]])
+        self.assertEqual((sender.write(), sender.write(1), sender.rest(), sender.place), (b"", b"", b"", 13))
+        self.assertEqual(kuta.line([NINE, bytearray(NINE)]), NINE_SENT * 2)
+        self.assertEqual(kuta.line([]), b"")
+        self.assertEqual(kuta.line([b"\0\0"]), b"\xe0\x03\x47\x0f\x7e")
+        self.assertEqual(kuta.line([b"\0\0"], 0), b"\x01\x01\x03\x47\x0f\x7e")
+
+    def test_up_to_a_flag(self):
+        """An urgent packet breaks off the other at once: three stretches, each up to its flag."""
+        sender = Sender()
+        sender.load(NINE)
+        start = sender.write(4)
+        sender.load(b"urgent", urgent=True)
+        written = [start + sender.write(), sender.write(sys.maxsize), sender.write(), sender.write()]
+        self.assertEqual([octets[-1:] for octets in written], [b"\x7e"] * 3 + [b""])
+        self.assertEqual(list(kuta.reports(b"".join(written))),
+                         [Held(3, False, 4), Packet(b"urgent", 14), Packet(NINE, 25)])
+
+    def test_round_trip(self):
+        """Packets of both lanes, loaded whenever there is room, at random places of the line."""
+        rng = random.Random(3)
+        for settings in (3, 2, 1, 0):
+            sender, receiver, sent, received = Sender(settings), Receiver(settings), ([], []), []
+            for _ in range(600):
+                urgent = rng.random() < 0.5
+                packet = (b"U" if urgent else b"L") + random_packet(rng)[:2047]
+                try:
+                    sender.load(packet, urgent)
+                    sent[urgent].append(packet)
+                except LaneBusy:
+                    pass
+                received += receiver.feed(sender.write(rng.choice((None, 1, 7, 300))))
+            received += receiver.feed(sender.rest())
+            self.assertEqual(sender.write(), b"")
+            self.assertEqual({type(report) for report in received}, {Packet, Held} if settings & kuta.PRE else {Packet})
+            for urgent, first in ((0, b"L"), (1, b"U")):
+                self.assertGreater(len(sent[urgent]), 15)
+                self.assertEqual([report.octets for report in received
+                                  if isinstance(report, Packet) and report.octets[:1] == first], sent[urgent])
+            self.assertFalse(any(isinstance(report, Held) and report.replaced for report in received))
+
+    def test_longest(self):
+        for packet in (bytes(2048), b"\x7e" * 2048, b"\xff" * 2048):
+            for settings in range(4):
+                octets = kuta.line([packet], settings)
+                self.assertLessEqual(len(octets), 2061)
+                self.assertEqual(list(kuta.reports(octets, settings)), [Packet(packet, len(octets) - 1)])
+
+    def test_refusals(self):
+        sender = Sender()
+        for length in (0, 1, 2049, 70000):
+            with self.assertRaises(RefusedCall) as caught:
+                sender.load(bytes(length))
+            self.assertEqual(caught.exception.number, 1)
+            self.assertNotIsInstance(caught.exception, LaneBusy)
+            self.assertIn("2,048", str(caught.exception))
+        self.assertEqual(sender.write(), b"")
+        for urgent in (False, True):
+            sender.load(NINE, urgent)
+            with self.assertRaises(LaneBusy) as caught:
+                sender.load(b"another", urgent)
+            self.assertEqual(caught.exception.number, 4)
+            again = pickle.loads(pickle.dumps(caught.exception))
+            self.assertEqual((type(again), again.number, str(again)), (LaneBusy, 4, str(caught.exception)))
+        self.assertEqual(sender.rest(), NINE_SENT * 2)
+        for wrong, error in ((0, ValueError), (-1, ValueError), (1.5, TypeError), ("1", TypeError)):
+            with self.assertRaises(error):
+                sender.write(wrong)
+        for wrong in (NINE, bytearray(NINE), "123"):
+            with self.assertRaisesRegex(TypeError, r"line\(\[packet\]\)"):
+                kuta.line(wrong)
+
+
+class Saving(unittest.TestCase):
+    def test_receiver(self):
+        for cut in range(len(MARKED)):
+            receiver = Receiver()
+            found = receiver.feed(MARKED[:cut])
+            for other in (Receiver.restore(receiver.save()), copy.copy(receiver), copy.deepcopy(receiver),
+                          pickle.loads(pickle.dumps(receiver))):
+                self.assertEqual((other.state, other.place, other.settings), (receiver.state, cut, 3))
+                self.assertEqual(found + other.feed(MARKED[cut:]), MARKED_REPORTS)
+            self.assertEqual(found + receiver.feed(MARKED[cut:]), MARKED_REPORTS)
+
+    def test_sender(self):
+        sender = Sender()
+        sender.load(NINE)
+        sender.write(4)
+        sender.load(b"urgent", urgent=True)
+        others = [Sender.restore(bytearray(sender.save())), copy.copy(sender), pickle.loads(pickle.dumps(sender))]
+        rest = sender.rest()
+        for other in others:
+            self.assertEqual(other.place, 4)
+            self.assertEqual(other.rest(), rest)
+            self.assertEqual(other.save(), sender.save())
+
+    def test_what_was_not_saved(self):
+        for end, other in ((Receiver, Sender), (Sender, Receiver)):
+            saved = end().save()
+            self.assertEqual((saved[:64], len(end().state)), (end().state, 64))
+            for wrong in (b"", saved[:-1], other().save()):
+                with self.assertRaises(ValueError):
+                    end.restore(wrong)
+            at = 5 if end is Sender else 22  # the lane on the line; the last block
+            spoilt = [saved[:at] + octet + saved[at + 1:] for octet in (b"\x01", b"\x03")]
+            for wrong in (bytes(len(saved)), *spoilt):
+                with self.assertRaises(RefusedCall) as caught:
+                    end.restore(wrong)
+                self.assertEqual(caught.exception.number, 3)
+            with self.assertRaises(TypeError):
+                end.restore("saved")
+
+
+class CheckSequence(unittest.TestCase):
+    def test_register(self):
+        self.assertEqual(kuta.pppfcs16(NINE), 0x6F91)
+        self.assertEqual(kuta.pppfcs16(b""), 0xFFFF)
+        self.assertEqual(kuta.pppfcs16(NINE[4:], kuta.pppfcs16(NINE[:4])), 0x6F91)
+        self.assertEqual(kuta.pppfcs16(NINE + b"\x6e\x90"), 0xF0B8)
+        for wrong in (-1, 65536):
+            with self.assertRaises(ValueError):
+                kuta.pppfcs16(NINE, wrong)
+
+
+class Module(unittest.TestCase):
+    def test_doc_string(self):
+        failed, tried = doctest.testmod(kuta)
+        self.assertEqual(failed, 0)
+        self.assertGreater(tried, 8)
+
+    def test_readme(self):
+        """The page's examples, run one behind the other from the root of the repository."""
+        failed, tried = doctest.testfile(os.path.join(HERE, "README.md"), module_relative=False)
+        self.assertEqual(failed, 0)
+        self.assertGreater(tried, 8)
+
+    def test_all(self):
+        self.assertTrue(all(hasattr(kuta, name) for name in kuta.__all__))
+
+
+class Program(unittest.TestCase):
+    def run_with(self, arguments, octets=b"", environment=(), path=HERE):
+        done = subprocess.run([sys.executable, "-B", *arguments], input=octets, cwd=ROOT, stdout=subprocess.PIPE,
+                              stderr=subprocess.PIPE, env={**os.environ, "PYTHONPATH": path, **dict(environment)})
+        return done.returncode, done.stdout.decode(), done.stderr.decode()
+
+    def test_files(self):
+        one = os.path.join("examples", "marked.octets")
+        said = stored(os.path.join(ROOT, one), "lines")
+        self.assertEqual(self.run_with(["-m", "kutarehopa", one]), (0, said, ""))
+        self.assertEqual(self.run_with(["-m", "kutarehopa"], octets_of(os.path.join(ROOT, one))), (0, said, ""))
+        status, out, error = self.run_with(["-m", "kutarehopa", one, "no such file", one])
+        self.assertEqual((status, out), (1, f"==> {one} <==\n{said}\n==> {one} <==\n{said}"))
+        self.assertEqual(error, "kutarehopa: no such file: cannot be read: No such file or directory\n")
+
+    def test_nobody_reads_on(self):
+        command = f"'{sys.executable}' -B -m kutarehopa - | head -n 1"
+        done = subprocess.run(["bash", "-c", command + "; exit ${PIPESTATUS[0]}"], input=NINE_SENT * 20000,
+                              env={**os.environ, "PYTHONPATH": HERE}, stdout=subprocess.PIPE, stderr=subprocess.PIPE)
+        self.assertEqual((done.returncode, done.stdout, done.stderr), (141, b"P 9 31 32 33 34 35 36 37 38 39\n", b""))
+
+    def test_missing_library(self):
+        """A copy of the module, with no checkout around it and no library named; and a name that is wrong."""
+        with tempfile.TemporaryDirectory() as folder:
+            os.mkdir(os.path.join(folder, "python"))
+            shutil.copy(os.path.join(HERE, "kutarehopa.py"), os.path.join(folder, "python"))
+            bare = {"KUTAREHOPA_LIBRARY": "", "LD_LIBRARY_PATH": ""}
+            path = os.path.join(folder, "python")
+            try:
+                ctypes.CDLL("libkutarehopa.so.0")  # in a system that has one there is nothing to miss
+            except OSError:
+                status, out, error = self.run_with(["-c", "import kutarehopa"], environment=bare.items(), path=path)
+                self.assertEqual((status, out), (1, ""))
+                for part in ("ImportError", "libkutarehopa.so.0:", "make", "KUTAREHOPA_LIBRARY"):
+                    self.assertIn(part, error)
+            for wrong in ("/no/such/library.so", os.path.join(HERE, "kutarehopa.py"), "libc.so.6"):
+                status, out, error = self.run_with(["-c", "import kutarehopa"],
+                                                   environment=[("KUTAREHOPA_LIBRARY", wrong)], path=path)
+                self.assertEqual((status, out), (1, ""))
+                for part in ("ImportError", os.path.basename(wrong), "unset"):
+                    self.assertIn(part, error)
+
+    def test_checkout_and_system(self):
+        """Without the variable: the library that stands in target/lib; then one that the system's loader finds."""
+        library = kuta._library._name
+        if not os.path.exists(library):
+            self.skipTest("the library in use has no path to copy it from")
+        with tempfile.TemporaryDirectory() as folder:
+            built = os.path.join(folder, "target", "lib")
+            os.makedirs(built)
+            os.mkdir(os.path.join(folder, "python"))
+            shutil.copy(os.path.join(HERE, "kutarehopa.py"), os.path.join(folder, "python"))
+            path, where = os.path.join(folder, "python"), ["-c", "import kutarehopa; print(kutarehopa._library._name)"]
+            shutil.copy(library, os.path.join(built, "libkutarehopa.so.0"))
+            bare = [("KUTAREHOPA_LIBRARY", ""), ("LD_LIBRARY_PATH", built)]
+            found = self.run_with(where, environment=bare, path=path)
+            self.assertEqual(found, (0, "libkutarehopa.so.0\n", ""))
+            os.rename(os.path.join(built, "libkutarehopa.so.0"), os.path.join(built, "libkutarehopa.so"))
+            self.assertEqual(self.run_with(where, environment=bare, path=path)[:2], (1, ""))  # this is no checkout
+            with open(os.path.join(folder, "crates.txt"), "w"):
+                pass
+            found = self.run_with(where, environment=bare, path=path)
+            self.assertEqual(found, (0, os.path.join(os.path.realpath(built), "libkutarehopa.so") + "\n", ""))
+            wrong = self.run_with(where, environment=[("KUTAREHOPA_LIBRARY", "/no/such/library.so")], path=path)
+            self.assertEqual(wrong[:2], (1, ""))
+            with open(os.path.join(built, "libkutarehopa.so"), "wb") as file:
+                file.write(b"no library")
+            found = self.run_with(where, environment=bare, path=path)
+            self.assertEqual(found[:2], (1, ""))
+            self.assertNotIn("libkutarehopa.so.0", found[2])
+
+
+if __name__ == "__main__":
+    os.chdir(ROOT)
+    unittest.main()

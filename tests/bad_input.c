@@ -1,0 +1,543 @@
+/* The C library with bad input: any 64 octets as a state, areas that are too short or not there, packets and stretches of any length.
+ *
+ * Each call is held against the rules below, which are its own, and each stretch against the calls octet by octet. Prints a line for each
+ * failure and one at the end. Exit status: 0 where nothing failed, else 1. */
+#include <stdio.h>
+#include <string.h>
+
+#include "kutarehopa.h"
+
+#define LENGTH(array) (sizeof(array) / sizeof(array)[0])
+
+enum { FLAG = 0x7E };
+enum { RECEIVER_OCTETS = 26, SENDER_OCTETS = 38 }; /* how many octets of a state its layout lists (docs/CLIBRARY.md) */
+enum { FCS_OCTETS = 2 };
+enum { MOST_DECODED = KUTA_RECEIVER_AREA, LEAST_FRAME = KUTA_LEAST_PACKET + FCS_OCTETS, LONGEST_FRAME = KUTA_SENDER_AREA };
+
+/* ---- The memory that a call is handed. Around each part lie guard octets, which no call may change. */
+
+enum { GUARD = 64, LINE = 2304 };
+
+struct memory {
+    uint8_t state[GUARD + KUTA_STATE + GUARD];
+    uint8_t one[GUARD + KUTA_RECEIVER_AREA + GUARD];   /* the area low, or first */
+    uint8_t other[GUARD + KUTA_RECEIVER_AREA + GUARD]; /* the area high, or second */
+    uint8_t line[GUARD + LINE + GUARD];                /* octets of the line, or a packet */
+};
+
+/* The lengths that go with it. A part of length 0 is handed over as NULL. */
+struct lengths {
+    size_t one, other, line;
+};
+
+static uint8_t *part(uint8_t *guarded, size_t length) { return length == 0 ? NULL : guarded + GUARD; }
+
+/* ---- Pseudo-random numbers, the same at each run */
+
+static uint32_t draw(void) {
+    static uint32_t seed = 1662;
+    seed ^= seed << 13;
+    seed ^= seed >> 17;
+    seed ^= seed << 5;
+    return seed;
+}
+
+static unsigned below(unsigned bound) { return (unsigned)(draw() >> 8) % bound; }
+
+static void draw_octets(uint8_t *octets, size_t count) {
+    while (count-- > 0) *octets++ = (uint8_t)(draw() >> 24);
+}
+
+/* ---- States, by docs/READING.md ("In bounds") and the layout */
+
+enum end { RECEIVER, SENDER };
+
+static unsigned number_at(const uint8_t *place) { return place[0] + 256u * place[1]; }
+
+static void put_number(uint8_t *place, unsigned number) {
+    place[0] = (uint8_t)(number & 255);
+    place[1] = (uint8_t)(number >> 8);
+}
+
+static int receiver_spelled(const uint8_t *s) { return s[0] == 1 && s[10] <= 1 && s[13] <= 1 && s[22] <= 2 && s[23] <= 1 && s[24] <= 1; }
+
+static int receiver_in_bounds(const uint8_t *s) {
+    const unsigned decoded = number_at(s + 11), left = s[20], zeros = s[21], last = s[22], resumed = s[24], refusal = s[25];
+    const int in_frame = s[23] == 1, held = s[13] == 1;
+    if (decoded > MOST_DECODED || (held && number_at(s + 14) > MOST_DECODED) || left > 207 || zeros > 2) return 0;
+    if (refusal != 0 && (refusal < KUTA_PLAIN_FRAME || refusal > KUTA_TOO_LONG)) return 0;
+    if (!in_frame) return decoded == 0 && left == 0 && zeros == 0 && last == 0 && resumed == 0 && refusal == 0;
+    if (refusal != 0) return 1;
+    return last == 0 ? resumed == 1 : last == 1 || left > 0 || decoded > 0;
+}
+
+static int sender_spelled(const uint8_t *s) { return s[0] == 1 && s[5] <= 2 && s[6] <= 1 && s[7] <= 1; }
+
+static int lane_in_bounds(unsigned length, unsigned position) {
+    return (length == 0 || (length >= LEAST_FRAME && length <= LONGEST_FRAME)) && position <= length + 1;
+}
+
+static int sender_in_bounds(const uint8_t *s) {
+    const unsigned low = number_at(s + 8), low_position = number_at(s + 10), high = number_at(s + 12), high_position = number_at(s + 14);
+    const unsigned lane = s[5], suspended = s[6], cut_due = s[7], left = s[16], zeros = s[17];
+    const unsigned length = lane == 1 ? low : high, position = lane == 1 ? low_position : high_position;
+    if (!lane_in_bounds(low, low_position) || !lane_in_bounds(high, high_position)) return 0;
+    if (left > 207 || zeros > 2 || (left == 0 && zeros > 0)) return 0;
+    if (lane == 0 && (left > 0 || cut_due)) return 0;
+    if (lane != 0 && (length == 0 || position + left + zeros > length + 1)) return 0;
+    if (suspended && (low == 0 || lane == 1)) return 0;
+    return !cut_due || (lane == 1 && left == 0);
+}
+
+static int stands(enum end end, const uint8_t *state) {
+    return end == RECEIVER ? receiver_spelled(state) && receiver_in_bounds(state) : sender_spelled(state) && sender_in_bounds(state);
+}
+
+/* RFC 1662's register over octets, bit by bit. */
+static unsigned register_over(unsigned start, const uint8_t *octets, size_t count) {
+    int bit;
+    while (count-- > 0) {
+        start ^= *octets++;
+        for (bit = 0; bit < 8; bit++) start = start >> 1 ^ (start & 1 ? 0x8408 : 0);
+    }
+    return start;
+}
+
+/* ---- The calls, each on a memory and lengths */
+
+enum call { RECEIVE, READ_ON, LOAD_LOW, LOAD_HIGH, NEXT, WRITE_ON };
+
+static const char *const call_names[] = {"receive", "read_on", "load_low", "load_high", "next", "write_on"};
+
+static enum end end_of(enum call call) { return call <= READ_ON ? RECEIVER : SENDER; }
+
+static kuta_stretch alone(uint32_t answer) {
+    kuta_stretch stretch;
+    stretch.answer = answer;
+    stretch.octets = 0;
+    return stretch;
+}
+
+static kuta_stretch make(enum call call, struct memory *m, struct lengths n) {
+    uint8_t *const state = m->state + GUARD, *const one = part(m->one, n.one), *const other = part(m->other, n.other);
+    uint8_t *const line = part(m->line, n.line);
+    switch (call) {
+    case RECEIVE: return alone(kuta_receive(state, m->line[GUARD], one, n.one, other, n.other));
+    case READ_ON: return kuta_read_on(state, line, n.line, one, n.one, other, n.other);
+    case LOAD_LOW: return alone(kuta_load_low(state, line, n.line, one, n.one));
+    case LOAD_HIGH: return alone(kuta_load_high(state, line, n.line, other, n.other));
+    case NEXT: return alone(kuta_next(state, one, n.one, other, n.other));
+    case WRITE_ON: break;
+    }
+    return kuta_write_on(state, one, n.one, other, n.other, line, n.line);
+}
+
+/* What read_on has to come to: receive for each octet, until one is answered by anything but Quiet. */
+static kuta_stretch read_singly(struct memory *m, struct lengths n) {
+    kuta_stretch stretch = alone(KUTA_QUIET);
+    while (stretch.octets < n.line && stretch.answer == KUTA_QUIET) {
+        const uint8_t octet = m->line[GUARD + stretch.octets++];
+        stretch.answer = kuta_receive(m->state + GUARD, octet, part(m->one, n.one), n.one, part(m->other, n.other), n.other);
+    }
+    return stretch;
+}
+
+/* What write_on has to come to: next for each octet, until the first flag or the first that does not come. */
+static kuta_stretch write_singly(struct memory *m, struct lengths n) {
+    kuta_stretch stretch = alone(KUTA_QUIET);
+    while (stretch.octets < n.line) {
+        const uint32_t answer = kuta_next(m->state + GUARD, part(m->one, n.one), n.one, part(m->other, n.other), n.other);
+        if (kuta_kind(answer) == KUTA_OCTET) m->line[GUARD + stretch.octets++] = (uint8_t)kuta_value(answer);
+        else if (stretch.octets > 0) break;
+        stretch.answer = answer;
+        if (kuta_kind(answer) != KUTA_OCTET || kuta_value(answer) == FLAG) break;
+    }
+    return stretch;
+}
+
+/* ---- The rules */
+
+static unsigned long passed, failed;
+static struct memory before; /* as it was before the call that is tested */
+
+static void check(int holds, const char *rule, const char *call, struct lengths n) {
+    size_t i;
+    if (holds) {
+        passed++;
+        return;
+    }
+    failed++;
+    printf("FAILED: %s: %s; lengths %lu %lu %lu, state", call, rule, (unsigned long)n.one, (unsigned long)n.other, (unsigned long)n.line);
+    for (i = 0; i < SENDER_OCTETS; i++) printf(" %02X", (unsigned)before.state[GUARD + i]);
+    putchar('\n');
+}
+
+static int is_short(enum call call, struct lengths n) {
+    const size_t least = end_of(call) == RECEIVER ? KUTA_RECEIVER_AREA : KUTA_SENDER_AREA;
+    return (call != LOAD_HIGH && n.one < least) || (call != LOAD_LOW && n.other < least);
+}
+
+static int is_loaded(enum call call, const uint8_t *state) {
+    return (call == LOAD_LOW && number_at(state + 8) > 0) || (call == LOAD_HIGH && number_at(state + 12) > 0);
+}
+
+static int is_bad_length(enum call call, size_t packet) {
+    return (call == LOAD_LOW || call == LOAD_HIGH) && (packet < KUTA_LEAST_PACKET || packet > KUTA_LARGEST_PACKET);
+}
+
+/* The number by which the call has to be refused, or 0. */
+static unsigned due_refusal(enum call call, const uint8_t *state, struct lengths n) {
+    if (is_short(call, n)) return KUTA_SHORT_AREA;
+    if (!stands(end_of(call), state)) return KUTA_BAD_STATE;
+    if (is_loaded(call, state)) return KUTA_LANE_LOADED;
+    return is_bad_length(call, n.line) ? KUTA_BAD_LENGTH : 0;
+}
+
+static int same(const struct memory *m, const struct memory *as) { return memcmp(m, as, sizeof *m) == 0; }
+
+/* Nothing is changed but what the call may change: listed octets of the state, and what it writes to. */
+static int only_its_own(enum call call, const struct memory *m, struct lengths n, size_t octets) {
+    static struct memory expected;
+    expected = before;
+    memcpy(expected.state + GUARD, m->state + GUARD, end_of(call) == RECEIVER ? RECEIVER_OCTETS : SENDER_OCTETS);
+    if (call == RECEIVE || call == READ_ON) {
+        memcpy(expected.one + GUARD, m->one + GUARD, n.one);
+        memcpy(expected.other + GUARD, m->other + GUARD, n.other);
+    }
+    if (call == LOAD_LOW) memcpy(expected.one + GUARD, m->one + GUARD, n.line + FCS_OCTETS);
+    if (call == LOAD_HIGH) memcpy(expected.other + GUARD, m->other + GUARD, n.line + FCS_OCTETS);
+    if (call == WRITE_ON) memcpy(expected.line + GUARD, m->line + GUARD, octets);
+    return same(m, &expected);
+}
+
+/* The area of a load that was done has the packet and its FCS. */
+static int has_frame(const uint8_t *area, const uint8_t *packet, size_t length) {
+    return memcmp(area, packet, length) == 0 && register_over(0xFFFF, area, length + FCS_OCTETS) == 0xF0B8;
+}
+
+static int is_answer_of(enum call call, uint32_t answer) {
+    const unsigned kind = kuta_kind(answer), value = kuta_value(answer);
+    switch (call) {
+    case RECEIVE:
+    case READ_ON:
+        return answer == KUTA_QUIET || kind == KUTA_PACKET || kind == KUTA_HELD ||
+               (kind == KUTA_REFUSED && value >= KUTA_PLAIN_FRAME && value <= KUTA_BAD_CHECK);
+    case LOAD_LOW:
+    case LOAD_HIGH: return answer == (uint32_t)KUTA_DONE << 24;
+    case NEXT:
+    case WRITE_ON: break;
+    }
+    return (kind == KUTA_OCTET && value <= 255) || answer == (uint32_t)KUTA_IDLE << 24;
+}
+
+/* A call that was not refused. */
+static void check_taken(enum call call, const struct memory *m, struct lengths n, kuta_stretch got) {
+    const char *const name = call_names[call];
+    check(is_answer_of(call, got.answer), "an answer that it has", name, n);
+    check(only_its_own(call, m, n, got.octets), "nothing else is changed", name, n);
+    check(stands(end_of(call), m->state + GUARD), "the state stays in bounds", name, n);
+    if (call == LOAD_LOW) check(has_frame(m->one + GUARD, m->line + GUARD, n.line), "the frame is loaded", name, n);
+    if (call == LOAD_HIGH) check(has_frame(m->other + GUARD, m->line + GUARD, n.line), "the frame is loaded", name, n);
+    if (kuta_kind(got.answer) == KUTA_IDLE) check(same(m, &before), "Idle changes nothing", name, n);
+}
+
+/* Makes a call, and checks it by all the rules. */
+static kuta_stretch try_call(enum call call, struct memory *m, struct lengths n) {
+    static struct memory singly;
+    const char *const name = call_names[call];
+    const int is_stretch = call == READ_ON || call == WRITE_ON;
+    const unsigned refusal = due_refusal(call, m->state + GUARD, n);
+    kuta_stretch got, wanted;
+    before = *m;
+    got = make(call, m, n);
+    check(got.octets <= n.line, "no more octets than there are", name, n);
+    if (got.octets > n.line) got.octets = 0;
+    if (is_stretch && n.line == 0) {
+        check(got.answer == KUTA_QUIET && got.octets == 0, "an empty stretch is Quiet", name, n);
+        check(same(m, &before), "an empty stretch changes nothing", name, n);
+    } else if (refusal != 0) {
+        check(got.answer == ((uint32_t)KUTA_REFUSED << 24 | refusal), "the refusal that is due", name, n);
+        check(same(m, &before), "a refused call changes nothing", name, n);
+    } else {
+        check_taken(call, m, n, got);
+    }
+    if (is_stretch) {
+        singly = before;
+        wanted = call == READ_ON ? read_singly(&singly, n) : write_singly(&singly, n);
+        check(got.answer == wanted.answer && got.octets == wanted.octets, "as octet by octet, the answer", name, n);
+        check(same(m, &singly), "as octet by octet, the memory", name, n);
+    }
+    return got;
+}
+
+/* The same, and everything is put back. */
+static void try_out(enum call call, struct memory *m, size_t one, size_t other, size_t line) {
+    struct lengths n;
+    n.one = one;
+    n.other = other;
+    n.line = line;
+    try_call(call, m, n);
+    *m = before;
+}
+
+/* An opening is done whatever the octets were, and writes what the layout lists. */
+static void try_open(enum end end, struct memory *m) {
+    static const struct lengths none = {0, 0, 0};
+    static struct memory expected;
+    const char *const name = end == RECEIVER ? "receiver_open" : "sender_open";
+    const uint8_t settings = (uint8_t)(draw() >> 24), head[] = {1, 16, 0, 8, settings};
+    uint8_t *const state = m->state + GUARD;
+    uint32_t answer;
+    before = expected = *m;
+    memset(expected.state + GUARD, 0, end == RECEIVER ? RECEIVER_OCTETS : SENDER_OCTETS);
+    memcpy(expected.state + GUARD, head, sizeof head);
+    answer = end == RECEIVER ? kuta_receiver_open(state, settings) : kuta_sender_open(state, settings);
+    check(answer == (uint32_t)KUTA_DONE << 24 && same(m, &expected), "a fresh state", name, none);
+    *m = before;
+}
+
+/* ---- One state: each call with areas that are long enough, one octet too short and not there */
+
+static const size_t packet_lengths[] = {0, 1, 2, 2048, 2049};
+
+static void try_areas(enum end end, struct memory *m, size_t one, size_t other) {
+    size_t i;
+    try_out(end == RECEIVER ? RECEIVE : NEXT, m, one, other, 1);
+    try_out(end == RECEIVER ? READ_ON : WRITE_ON, m, one, other, 0);
+    try_out(end == RECEIVER ? READ_ON : WRITE_ON, m, one, other, 1 + below(40));
+    for (i = 0; end == SENDER && i < LENGTH(packet_lengths); i++) {
+        try_out(LOAD_LOW, m, one, other, packet_lengths[i]);
+        try_out(LOAD_HIGH, m, one, other, packet_lengths[i]);
+    }
+}
+
+static void try_state(enum end end, struct memory *m) {
+    const size_t least = end == RECEIVER ? KUTA_RECEIVER_AREA : KUTA_SENDER_AREA;
+    try_open(end, m);
+    try_areas(end, m, least, least);
+    try_areas(end, m, least - 1, least);
+    try_areas(end, m, least, least - 1);
+    try_areas(end, m, 0, least);
+    try_areas(end, m, least, 0);
+    try_areas(end, m, 0, 0);
+}
+
+/* The same at less cost, for very many states: some lengths, not all. */
+static void try_state_once(enum end end, struct memory *m) {
+    const size_t least = end == RECEIVER ? KUTA_RECEIVER_AREA : KUTA_SENDER_AREA;
+    const size_t one = least - (below(16) == 0), other = least - (below(16) == 0), line = below(64) == 0 ? below(LINE + 1) : below(24);
+    if (below(16) == 0) try_open(end, m);
+    if (end == RECEIVER) {
+        try_out(RECEIVE, m, one, other, 1);
+        try_out(READ_ON, m, one, other, line);
+    } else {
+        try_out(below(2) ? LOAD_LOW : LOAD_HIGH, m, one, other, below(16) == 0 ? packet_lengths[below(LENGTH(packet_lengths))] : line);
+        try_out(NEXT, m, one, other, 1);
+        try_out(WRITE_ON, m, one, other, line);
+    }
+}
+
+/* ---- Many states */
+
+static void fresh_state(enum end end, struct memory *m) {
+    if (end == RECEIVER) kuta_receiver_open(m->state + GUARD, KUTA_ZXE | KUTA_PRE);
+    else kuta_sender_open(m->state + GUARD, KUTA_ZXE | KUTA_PRE);
+}
+
+/* Octets as a line has them: many codes, flags, zeros. */
+static void draw_line(struct memory *m, size_t count) {
+    static const uint8_t often[] = {0x00, 0x01, 0x02, 0x03, 0x05, 0x7E, 0xCF, 0xD0, 0xD1, 0xD2, 0xD3, 0xDF, 0xE0, 0xE1, 0xFE, 0xFF};
+    size_t i;
+    draw_octets(m->line + GUARD, count);
+    for (i = 0; i < count; i++)
+        if (below(2)) m->line[GUARD + i] = often[below(LENGTH(often))];
+}
+
+static void try_plain_states(enum end end, struct memory *m) {
+    memset(m->state + GUARD, 0, KUTA_STATE);
+    try_state(end, m);
+    memset(m->state + GUARD, 0xFF, KUTA_STATE);
+    try_state(end, m);
+    fresh_state(end, m);
+    try_state(end, m);
+}
+
+/* Each octet of an opened state, changed to each value. */
+static void try_changed_octets(enum end end, struct memory *m) {
+    unsigned place, value;
+    for (place = 0; place < KUTA_STATE; place++) {
+        for (value = 0; value < 256; value++) {
+            draw_octets(m->state + GUARD, KUTA_STATE);
+            fresh_state(end, m);
+            m->state[GUARD + place] = (uint8_t)value;
+            try_state(end, m);
+        }
+    }
+}
+
+/* A count near one of its bounds, or any. */
+static unsigned draw_count(unsigned most) {
+    switch (below(6)) {
+    case 0: return 0;
+    case 1: return 1 + below(5);
+    case 2: return most - below(most < 3 ? most + 1 : 3);
+    case 3: return most + 1;
+    default: return below(most + 1);
+    }
+}
+
+static void draw_block(uint8_t *left, uint8_t *zeros) {
+    *left = (uint8_t)(below(2) ? draw_count(207) : 0);
+    *zeros = (uint8_t)(*left > 0 || below(8) == 0 ? below(3) : 0);
+}
+
+/* A receiver that may well stand; what it does not look at is anything. */
+static void draw_receiver(uint8_t *s) {
+    const int in_frame = below(4) > 0;
+    draw_octets(s, KUTA_STATE);
+    s[0] = 1;
+    s[10] = (uint8_t)below(2);
+    s[13] = (uint8_t)below(2);
+    put_number(s + 14, draw_count(MOST_DECODED));
+    memset(s + 20, 0, 6);
+    put_number(s + 11, in_frame ? draw_count(MOST_DECODED) : 0);
+    if (!in_frame) return;
+    draw_block(s + 20, s + 21);
+    s[22] = (uint8_t)below(3);
+    s[23] = 1;
+    s[24] = (uint8_t)below(2);
+    s[25] = (uint8_t)(below(4) == 0 ? 4 + below(8) : 0);
+}
+
+/* A sender that may well stand. */
+static void draw_sender(uint8_t *s) {
+    draw_octets(s, KUTA_STATE);
+    s[0] = 1;
+    s[5] = (uint8_t)below(3);
+    put_number(s + 8, below(3) == 0 ? 0 : 4 + draw_count(LONGEST_FRAME - 4));
+    put_number(s + 10, below(4) == 0 ? number_at(s + 8) + 1 : draw_count(number_at(s + 8) + 1));
+    put_number(s + 12, below(2) ? 0 : 4 + draw_count(LONGEST_FRAME - 4));
+    put_number(s + 14, below(4) == 0 ? number_at(s + 12) + 1 : draw_count(number_at(s + 12) + 1));
+    s[6] = (uint8_t)(s[5] != 1 && below(2));
+    s[16] = s[17] = 0;
+    if (s[5] != 0) draw_block(s + 16, s + 17);
+    s[7] = (uint8_t)(s[5] == 1 && s[16] == 0 && below(2));
+}
+
+static void try_drawn_states(enum end end, struct memory *m, unsigned long count) {
+    uint8_t *const state = m->state + GUARD;
+    unsigned long i;
+    for (i = 0; i < count; i++) {
+        if (i % 64 == 0) draw_line(m, LINE);
+        else draw_line(m, 24);
+        if (i % 4 == 0) draw_octets(state, KUTA_STATE);
+        else if (end == RECEIVER) draw_receiver(state);
+        else draw_sender(state);
+        if (i % 8 == 0) state[0] = 1;
+        if (i % 8 == 1) state[below(KUTA_STATE)] = (uint8_t)below(256);
+        try_state_once(end, m);
+    }
+}
+
+/* ---- Both ends joined, so that packets are delivered too: in stretches of any length, each checked as above */
+
+static struct memory sending, receiving;
+static uint8_t sent[2][KUTA_LARGEST_PACKET]; /* of each lane, the packet on its way */
+static size_t sent_length[2];
+static unsigned long loaded, delivered;
+
+static void load_a_packet(unsigned lane) {
+    const size_t lengths[] = {2, 3, 2 + below(300), 2 + below(2047), 2048};
+    struct lengths n = {KUTA_SENDER_AREA, KUTA_SENDER_AREA, 0};
+    n.line = lengths[below(LENGTH(lengths))];
+    draw_line(&sending, n.line);
+    if (try_call(lane == 0 ? LOAD_LOW : LOAD_HIGH, &sending, n).answer != (uint32_t)KUTA_DONE << 24) return;
+    memcpy(sent[lane], sending.line + GUARD, n.line);
+    sent_length[lane] = n.line;
+    loaded++;
+}
+
+static int is_on_its_way(const uint8_t *packet, size_t length) {
+    return (length == sent_length[0] && memcmp(packet, sent[0], length) == 0) ||
+           (length == sent_length[1] && memcmp(packet, sent[1], length) == 0);
+}
+
+/* Reads all of the octets; answers how many packets of those on their way came out of them. */
+static unsigned read_all(const uint8_t *octets, size_t count) {
+    struct lengths n = {KUTA_RECEIVER_AREA, KUTA_RECEIVER_AREA, 0};
+    unsigned packets = 0;
+    while (count > 0) {
+        kuta_stretch stretch;
+        n.line = count < 40 || below(2) ? count : 1 + below((unsigned)count);
+        memcpy(receiving.line + GUARD, octets, n.line);
+        stretch = try_call(READ_ON, &receiving, n);
+        if (stretch.octets == 0) break; /* which has failed */
+        if (kuta_kind(stretch.answer) == KUTA_PACKET)
+            packets +=
+                (unsigned)is_on_its_way((kuta_mark(stretch.answer) ? receiving.other : receiving.one) + GUARD, kuta_value(stretch.answer));
+        octets += stretch.octets;
+        count -= stretch.octets;
+    }
+    return packets;
+}
+
+enum { STEPS_TO_EMPTY = 200 }; /* for what is loaded at last; much more than two packets need */
+
+/* Damage: one of so many stretches has an octet changed; 0 none. */
+static void run_session(uint8_t settings, unsigned steps, unsigned damage) {
+    static const struct lengths none = {0, 0, 0};
+    struct lengths n = {KUTA_SENDER_AREA, KUTA_SENDER_AREA, 0};
+    uint8_t octets[LINE];
+    unsigned step;
+    loaded = delivered = 0;
+    kuta_sender_open(sending.state + GUARD, settings);
+    kuta_receiver_open(receiving.state + GUARD, settings);
+    for (step = 0; step < steps + STEPS_TO_EMPTY; step++) {
+        kuta_stretch stretch;
+        if (step < steps && below(2)) load_a_packet(0);
+        if (step < steps && below(3) == 0) load_a_packet(1);
+        n.line = below(4) == 0 ? below(LINE + 1) : below(200);
+        stretch = try_call(WRITE_ON, &sending, n);
+        memcpy(octets, sending.line + GUARD, stretch.octets);
+        if (damage > 0 && stretch.octets > 0 && below(damage) == 0) octets[below((unsigned)stretch.octets)] = (uint8_t)below(256);
+        delivered += read_all(octets, stretch.octets);
+    }
+    if (damage == 0) check(delivered == loaded && loaded > 0, "all that was loaded is delivered", "both ends", none);
+}
+
+/* ---- pppfcs16 */
+
+static void try_check_sequence(struct memory *m) {
+    struct lengths n = {0, 0, 0};
+    unsigned i;
+    for (i = 0; i < 65536; i++) check(pppfcs16((uint16_t)i, NULL, 0) == i, "no octets, no change", "pppfcs16", n);
+    draw_octets(m->line + GUARD, LINE);
+    before = *m;
+    for (i = 0; i <= LINE; i++) {
+        const unsigned start = below(65536);
+        n.line = i;
+        check(pppfcs16((uint16_t)start, m->line + GUARD, i) == register_over(start, m->line + GUARD, i), "as bit by bit", "pppfcs16", n);
+    }
+    check(same(m, &before), "nothing is changed", "pppfcs16", n);
+}
+
+static void try_end(enum end end, struct memory *m) {
+    try_plain_states(end, m);
+    try_changed_octets(end, m);
+    try_drawn_states(end, m, 200000);
+}
+
+int main(void) {
+    static struct memory memory;
+    uint8_t settings;
+    draw_octets((uint8_t *)&memory, sizeof memory);
+    try_end(RECEIVER, &memory);
+    try_end(SENDER, &memory);
+    try_check_sequence(&memory);
+    for (settings = 0; settings < 4; settings++) {
+        run_session(settings, 5000, 0);
+        run_session(settings, 5000, 4);
+    }
+    printf("bad input: %lu passed, %lu failed\n", passed, failed);
+    return failed == 0 && fclose(stdout) == 0 ? 0 : 1;
+}
