@@ -25,7 +25,7 @@ CRATES := kutarehopa $(shell sed -n 's/^kutarehopa: *//p' crates.txt)
 SOURCES := crates.txt $(shell find $(CRATES:%=crates/%) \( -path '*/src/*.rt' -o -path '*/specs/*.antt' -o -path '*/proofs/*.antt' \))
 
 ifneq ($(filter-out /%,$(PREFIX))$(filter /%,$(LIBDIR))$(findstring ',$(PREFIX))$(findstring &,$(PREFIX))$(findstring \,$(PREFIX)),)
-$(error PREFIX must be an absolute path without quotes, & and \, and LIBDIR a path below it)
+$(error PREFIX must be an absolute path without spaces, quotes, & and \, and LIBDIR a path below it)
 endif
 
 .PHONY: all programs library driver examples check install install-library install-programs uninstall clean FORCE
