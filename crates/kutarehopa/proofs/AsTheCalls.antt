@@ -36,7 +36,7 @@ use Rattle.writer.proofs.Steps.{no-room, no-octet, none-written}
 use Rattle.kutarehopa.specs.Numbers.{number, value}
 use Rattle.kutarehopa.specs.Layout.{octetAt, spellReceiver, receiverIn, receiverOctets, spellSender, senderIn, senderOctets, over}
 use Rattle.kutarehopa.specs.Calls.{shortForReceiver, shortForSender, noState, taken, changes, received, receiverAfter, ReceiveCall, receiveCall, readTo, ReadCall, readCall, loaded, senderAfter, LoadCall, loadCall, sent, NextCall, nextCall, wrote, WriteCall, writeCall, openReceiver, openSender}
-use Rattle.kutarehopa.specs.AsTheCalls.{receiveInOctets, readInOctets, loadInOctets, nextInOctets, lastAnswer, writeInOctets, OnPackedStates, receiveCalls, SenderMemory, senderNumbers, readCalls, readings, LineStep, loadsPacket, writesLine, lineOctets, programStep, RunsAsLink, OpenedIsPacked, AsPackedAgain, NoCallMade, RefusedLeavesAll, NoOctetNoChange, NoStateIsOutOfBounds, RestStays}
+use Rattle.kutarehopa.specs.AsTheCalls.{receiveInOctets, readInOctets, loadInOctets, nextInOctets, lastAnswer, writeInOctets, OnPackedStates, receiveCalls, SenderMemory, senderNumbers, readCalls, readings, LineStep, loadsPacket, writesLine, octetsOnLines, programStep, RunsAsLink, OpenedIsPacked, AsPackedAgain, NoCallMade, RefusedLeavesAll, NoOctetNoChange, NoStateIsOutOfBounds, RestStays}
 use Rattle.kutarehopa.proofs.Numbers.{reports-have-numbers, small-refused}
 use Rattle.kutarehopa.proofs.Spelling.{packed-spells-itself}
 use Rattle.kutarehopa.proofs.Calls.{no-receiver, a-receiver, no-reader, a-reader, reads-nothing, no-loader, a-loader, no-sender, a-sender, no-writer, a-writer, writes-nothing}
@@ -240,8 +240,8 @@ stretches-run e m (xs ∷ xss) =
 abbrev inMemory : List ℕ → SenderEnd → SenderMemory
 inMemory m e = record { state = over (senderOctets (e .state)) m; low = e .low; high = e .high }
 
-lines-run : (e : SenderEnd) (m : List ℕ) (ss : List LineStep) → lineOctets (inMemory m e) ss ≡ inPieces e (map programStep ss) .octets
-unfolding lineOctets inPieces
+lines-run : (e : SenderEnd) (m : List ℕ) (ss : List LineStep) → octetsOnLines (inMemory m e) ss ≡ inPieces e (map programStep ss) .octets
+unfolding octetsOnLines inPieces
 lines-run e m [] = refl
 lines-run e m (loadsPacket low p ∷ ss) = rw (load-packed low (e .state) m p (e .low)) (lines-run (afterLoading low p e) m ss)
 lines-run e m (loadsPacket high p ∷ ss) = rw (load-packed high (e .state) m p (e .high)) (lines-run (afterLoading high p e) m ss)
@@ -283,37 +283,24 @@ again-read m s x xs first second =
 
 again-load : (m : List ℕ) → spellSender m ≡ true → (l : Lane) (p area : List ℕ)
     → (let h = loadCall l (over (senderOctets (senderIn m)) m) p area in
-    (loadCall l m p area .answer ≡ h .answer) × (((n : ℕ) → h .answer ≡ number (refused n) → ⊥) → loadCall l m p area ≡ h))
-again-load m s l p area =
-    let done-only = load-answers (λ (a : Answer). ((n : ℕ) → number a ≡ number (refused n) → ⊥) → changes a ≡ true) (λ _. refl) (λ n z. absurd (z n refl)) l p (senderIn m) area in
-    rw (a-loader l m p area s, load-packed l (senderIn m) m p area) (refl, λ z. rw (done-only z))
-
--- an octet, where a call of next octet is neither refused nor Idle
-gives-octet : (o : Out) → ((n : ℕ) → number (outAnswer o) ≡ number (refused n) → ⊥) → (number (outAnswer o) ≡ number idle → ⊥) → changes (outAnswer o) ≡ true
-gives-octet (closes l) r i = refl
-gives-octet breaksOff r i = refl
-gives-octet (sends l x) r i = refl
-gives-octet sendsNothing r i = absurd (i refl)
-gives-octet (refuses n) r i = absurd (r n refl)
+    (loadCall l m p area .answer ≡ h .answer) × (load l p (senderIn m) area .answer ≡ done → loadCall l m p area ≡ h))
+again-load m s l p area = rw (a-loader l m p area s, load-packed l (senderIn m) m p area) (refl, λ d. rw d)
 
 module _ (m : List ℕ) (s : spellSender m ≡ true) (lowArea highArea : List ℕ) where
   abbrev spelled : SenderEnd
   spelled = record { state = senderIn m; low = lowArea; high = highArea }
 
+  -- by the answer
+  next-by : (a : Answer) → seen (next spelled) .answer ≡ a → nextCall m lowArea highArea ≡ record { answer = number a; state = senderAfter m a (next spelled .state) }
+  next-by a q = a-sender m lowArea highArea s ∙ ap (λ (b : Answer). record { answer = number b; state = senderAfter m b (next spelled .state) }) q
+
   again-next : (let h = nextCall (over (senderOctets (senderIn m)) m) lowArea highArea in
-      (nextCall m lowArea highArea .answer ≡ h .answer)
-      × (((n : ℕ) → h .answer ≡ number (refused n) → ⊥) → (h .answer ≡ number idle → ⊥) → nextCall m lowArea highArea ≡ h))
+      (nextCall m lowArea highArea .answer ≡ h .answer) × ((x : ℕ) → seen (next spelled) .answer ≡ octet x → nextCall m lowArea highArea ≡ h))
   again-next =
-      let a = a-sender m lowArea highArea s in
       let b = next-packed (senderIn m) m lowArea highArea in
-      let k = seen (next spelled) in
       let answer-of : NextCall → ℕ = λ h. h .answer in (
-        ap answer-of a ∙ sym (ap answer-of b),
-        λ r i.
-            a
-            ∙ ap (λ (c : Bool). record { answer = number (k .answer); state = if c then over (senderOctets (k .state)) m else m })
-            (gives-octet (next spelled .out) (λ n z. r n (ap answer-of b ∙ z)) (λ z. i (ap answer-of b ∙ z)))
-            ∙ sym b,
+        ap answer-of (a-sender m lowArea highArea s) ∙ sym (ap answer-of b),
+        λ x q. next-by (octet x) q ∙ ap (λ (a : Answer). record { answer = number a; state = over (senderOctets (next spelled .state)) m }) (sym q) ∙ sym b,
       )
 
   -- the answer and the count are the same, and all is, if something is written
@@ -399,6 +386,10 @@ module _ (n : ℕ) (few : n < 5) where
 
 -- ---- no octet, no change
 
+-- a refused call of next octet sends none
+refused-octet : (n x : ℕ) → n < 5 → number (octet x) ≡ number (refused n) → ⊥
+refused-octet n x few z = omega (arith, z)
+
 -- a call of next octet that changes the state answers an octet
 out-octet : (o : Out) → changes (outAnswer o) ≡ true → (x : ℕ) × (outAnswer o ≡ octet x)
 out-octet (closes l) k = (_, refl)
@@ -407,15 +398,15 @@ out-octet (sends l x) k = (x, refl)
 out-octet sendsNothing k = false-true k
 out-octet (refuses n) k = false-true k
 
-none-next : (m lowArea highArea : List ℕ) → ((x : ℕ) → nextCall m lowArea highArea .answer ≡ number (octet x) → ⊥) → nextCall m lowArea highArea .state ≡ m
-none-next m lowArea highArea none =
+refused-next : (m lowArea highArea : List ℕ) (n : ℕ) → n < 5 → nextCall m lowArea highArea .answer ≡ number (refused n) → nextCall m lowArea highArea .state ≡ m
+refused-next m lowArea highArea n few z =
     decide (spellSender m)
     (λ s.
     let e : SenderEnd = record { state = senderIn m; low = lowArea; high = highArea } in
     let a = a-sender m lowArea highArea s in
     ap (λ (h : NextCall). h .state) a
     ∙ branch (λ (l : List ℕ). l ≡ m) (changes (outAnswer (next e .out)))
-    (λ k. let o = out-octet (next e .out) k in absurd (none (o .0) (ap (λ (h : NextCall). h .answer) a ∙ ap number (o .1))))
+    (λ k. let o = out-octet (next e .out) k in absurd (refused-octet n (o .0) few (sym (ap (λ (h : NextCall). h .answer) a ∙ ap number (o .1)) ∙ z)))
     (λ _. refl))
     (λ s. ap (λ (h : NextCall). h .state) (no-sender m lowArea highArea s))
 
@@ -450,14 +441,12 @@ none-write m lowArea highArea (x ∷ xs) z =
 pub no-octet-no-change : NoOctetNoChange
 no-octet-no-change =
     record {
-      next = none-next;
+      idle = λ m lowArea highArea s q. next-by m s lowArea highArea idle q;
+      refused = λ m lowArea highArea s n q. next-by m s lowArea highArea (refused n) q;
       write = λ m lowArea highArea line z. let w = none-write m lowArea highArea line z in (ap (λ (h : WriteCall). h .state) w, ap (λ (h : WriteCall). h .line) w);
     }
 
--- a refused call of next octet, and of writing on, sends none
-refused-octet : (n x : ℕ) → n < 5 → number (octet x) ≡ number (refused n) → ⊥
-refused-octet n x few z = omega (arith, z)
-
+-- a refused writing writes none
 written-none : (m lowArea highArea line : List ℕ) (n : ℕ) → n < 5 → writeCall m lowArea highArea line .answer ≡ number (refused n) → writeCall m lowArea highArea line .written ≡ 0
 written-none m lowArea highArea [] n few q = ap (λ (h : WriteCall). h .written) (writes-nothing m lowArea highArea [] refl)
 written-none m lowArea highArea (x ∷ xs) n few q =
@@ -478,7 +467,7 @@ refused-leaves-all =
       receive = λ m x first second n few. refused-receive n few m x first second;
       read = λ m xs first second n few. refused-read n few m xs first second;
       load = λ l m p area n few. refused-load n few l m p area;
-      next = λ m lowArea highArea n few q. none-next m lowArea highArea (λ x z. refused-octet n x few (sym z ∙ q));
+      next = refused-next;
       write = λ m lowArea highArea line n few q.
           none-write m lowArea highArea line (written-none m lowArea highArea line n few q)
           ∙ ap (λ (i : ℕ). record { answer = i; written = 0; state = m; line = line }) q;

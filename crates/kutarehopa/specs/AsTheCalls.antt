@@ -7,7 +7,7 @@ use lib.Dec.{eqb}
 use lib.ListN.{length, take, drop, getD}
 use Rattle.fcs.specs.Notation.{if_then_else_}
 use Rattle.link.specs.Agreed.{agreed}
-use Rattle.link.specs.Answers.{Answer, octet, idle, quiet, refused}
+use Rattle.link.specs.Answers.{Answer, done, octet, idle, quiet, refused}
 use Rattle.link.specs.declared.sender.Lane.{Lane}
 use Rattle.link.specs.declared.sender.Lane.the-variants.{Low as low, High as high}
 use Rattle.link.specs.declared.sender.Sender.{Sender}
@@ -122,12 +122,12 @@ pub data LineStep : Type 0 where
   writesLine : List ℕ → LineStep
 
 -- the octets that it writes, and the step of `writer` that each step is
-unfoldable pub lineOctets : SenderMemory → List LineStep → List ℕ
-lineOctets w [] = []
-lineOctets w (loadsPacket l p ∷ ss) = lineOctets (afterLoadCall l (loadCall l (w .state) p (areaIn l w)) w) ss
-lineOctets w (writesLine line ∷ ss) =
+unfoldable pub octetsOnLines : SenderMemory → List LineStep → List ℕ
+octetsOnLines w [] = []
+octetsOnLines w (loadsPacket l p ∷ ss) = octetsOnLines (afterLoadCall l (loadCall l (w .state) p (areaIn l w)) w) ss
+octetsOnLines w (writesLine line ∷ ss) =
     let h = writeCall (w .state) (w .low) (w .high) line in
-    take (h .written) (h .line) ++ lineOctets (record { state = h .state; low = w .low; high = w .high }) ss
+    take (h .written) (h .line) ++ octetsOnLines (record { state = h .state; low = w .low; high = w .high }) ss
 
 abbrev pub programStep : LineStep → ProgramStep
 programStep (loadsPacket l p) = loads l p
@@ -143,7 +143,7 @@ pub record RunsAsLink : Type 0 where
   pub stretches : (r : Receiver) (m first second : List ℕ) (xss : List (List ℕ))
       → readCalls (over (receiverOctets r) m) first second xss ≡ map (readInOctets m) (readings (record { state = r; first = first; second = second }) xss)
   pub lines : (e : SenderEnd) (m : List ℕ) (ss : List LineStep)
-      → lineOctets (record { state = over (senderOctets (e .state)) m; low = e .low; high = e .high }) ss ≡ inPieces e (map programStep ss) .octets
+      → octetsOnLines (record { state = over (senderOctets (e .state)) m; low = e .low; high = e .high }) ss ≡ inPieces e (map programStep ss) .octets
 
 -- An opened end is packed.
 pub record OpenedIsPacked : Type 0 where
@@ -166,11 +166,11 @@ pub record AsPackedAgain : Type 0 where
       × (((n : ℕ) → n < 5 → h .answer ≡ number (refused n) → ⊥) → readCall m (x ∷ xs) first second ≡ h))
   pub load : (m : List ℕ) → spellSender m ≡ true → (l : Lane) (p area : List ℕ)
       → (let h = loadCall l (over (senderOctets (senderIn m)) m) p area in
-      (loadCall l m p area .answer ≡ h .answer) × (((n : ℕ) → h .answer ≡ number (refused n) → ⊥) → loadCall l m p area ≡ h))
+      (loadCall l m p area .answer ≡ h .answer) × (load l p (senderIn m) area .answer ≡ done → loadCall l m p area ≡ h))
   pub next : (m : List ℕ) → spellSender m ≡ true → (low high : List ℕ)
       → (let h = nextCall (over (senderOctets (senderIn m)) m) low high in
       (nextCall m low high .answer ≡ h .answer)
-      × (((n : ℕ) → h .answer ≡ number (refused n) → ⊥) → (h .answer ≡ number idle → ⊥) → nextCall m low high ≡ h))
+      × ((x : ℕ) → seen (next (record { state = senderIn m; low = low; high = high })) .answer ≡ octet x → nextCall m low high ≡ h))
   pub write : (m : List ℕ) → spellSender m ≡ true → (low high : List ℕ) (x : ℕ) (line : List ℕ)
       → (let h = writeCall (over (senderOctets (senderIn m)) m) low high (x ∷ line) in
       (writeCall m low high (x ∷ line) .answer ≡ h .answer)
@@ -194,9 +194,12 @@ pub record RefusedLeavesAll : Type 0 where
   pub write : (m low high line : List ℕ) (n : ℕ) → n < 5 → writeCall m low high line .answer ≡ number (refused n)
       → writeCall m low high line ≡ record { answer = number (refused n); written = 0; state = m; line = line }
 
--- Nor does a sender's call change an octet that writes none.
+-- Nor does a sender's call change an octet that writes none: next octet where it answers Idle or a refusal, and writing on.
 pub record NoOctetNoChange : Type 0 where
-  pub next : (m low high : List ℕ) → ((x : ℕ) → nextCall m low high .answer ≡ number (octet x) → ⊥) → nextCall m low high .state ≡ m
+  pub idle : (m low high : List ℕ) → spellSender m ≡ true → seen (next (record { state = senderIn m; low = low; high = high })) .answer ≡ idle
+      → nextCall m low high ≡ record { answer = number idle; state = m }
+  pub refused : (m low high : List ℕ) → spellSender m ≡ true → (n : ℕ) → seen (next (record { state = senderIn m; low = low; high = high })) .answer ≡ refused n
+      → nextCall m low high ≡ record { answer = number (refused n); state = m }
   pub write : (m low high line : List ℕ) → writeCall m low high line .written ≡ 0 → (writeCall m low high line .state ≡ m) × (writeCall m low high line .line ≡ line)
 
 -- Octets that spell no state are answered as any state out of bounds is.
