@@ -45,14 +45,14 @@ target/library.sources: FORCE
 	@mkdir -p target
 	@sha256sum $(sort $(SOURCES)) | sha256sum | cmp -s - $@ || sha256sum $(sort $(SOURCES)) | sha256sum >$@
 
-# One build at a time, as with the script. RFC 1662's name gives way to a function of that name in the program.
+# One build at a time, as with the script. RFC 1662's names give way to functions of these names in the program.
 $(ARCHIVE): target/library.sources
 	@command -v rt >/dev/null || { echo "make: the library is not built yet, and the Rattle kit's command rt is not on the path (README.md)" >&2; exit 1; }
 	@echo "proving and building the library; some minutes, if nothing is proved yet" >&2
 	@mkdir -p $(LIB)
 	@flock crates.txt rt staticlib kutarehopa >target/library.log 2>&1 </dev/null || \
 	    { tail -n 20 target/library.log >&2; echo "make: the library could not be proved and built (target/library.log has it all)" >&2; exit 1; }
-	@objcopy --weaken-symbol=pppfcs16 target/staticlib/libkutarehopa.a $@
+	@objcopy --weaken-symbol=pppfcs16 --weaken-symbol=pppfcs32 target/staticlib/libkutarehopa.a $@
 
 $(SHARED): $(ARCHIVE)
 	$(CC) -shared -Wl,-soname,$(SONAME) -Wl,-z,defs -Wl,--whole-archive $(ARCHIVE) -Wl,--no-whole-archive -o $(LIB)/$(SONAME)

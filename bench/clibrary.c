@@ -79,7 +79,7 @@ static void read_stretches(const uint8_t *octets, size_t length) {
 static void capture(void (*take)(const uint8_t *, size_t)) {
     static uint8_t piece[PIECE];
     size_t length;
-    kuta_receiver_open(state, KUTA_ZXE | KUTA_PRE);
+    kuta_receiver_open(state, KUTA_ZXE | KUTA_PRE, 16);
     while ((length = fread(piece, 1, sizeof piece, stdin)) > 0) take(piece, length);
 }
 
@@ -105,7 +105,7 @@ static void send_all(void (*send)(void)) {
     uint8_t head[5];
     int settings = getchar();
     if (settings == EOF) fail("there is no settings octet");
-    kuta_sender_open(state, (uint8_t)settings);
+    kuta_sender_open(state, (uint8_t)settings, 16);
     while (fread(head, 1, sizeof head, stdin) == sizeof head) {
         const size_t length = head[3] * 256u + head[4];
         if (head[0] != 'L' || head[1] != 0 || head[2] != 0 || length > sizeof packet || fread(packet, 1, length, stdin) != length)

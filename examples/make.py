@@ -26,10 +26,21 @@ def calls(n):
     return b"n" + struct.pack("<H", n)
 
 
-def sent(script):
-    """The octets that a fresh sender, both settings on, writes for a script."""
-    lines = model("exercise", b"o\x03" + script).decode().split("\n")
+def opened(letter, width):
+    """An end, both settings on, and areas that are long enough for either width."""
+    return b"a" + struct.pack("<4H", 2052, 2052, 2053, 2053) + letter + bytes((3, width))
+
+
+def sent(script, width=16):
+    """The octets that a fresh sender writes for a script."""
+    lines = model("exercise", opened(b"o", width) + script).decode().split("\n")
     return bytes(int(line[2:], 16) for line in lines if line.startswith("O "))
+
+
+def received(octets, width):
+    """The lines of a fresh receiver's reports, as capture has them: without the number of a packet's area."""
+    lines = model("exercise", opened(b"O", width) + b"r" + struct.pack("<H", len(octets)) + octets).decode().split("\n")
+    return "\n".join("P" + line[3:] if line.startswith("P ") else line for line in lines).encode()
 
 
 def frame(packet):
@@ -77,10 +88,14 @@ def flipped(octets, at, bit):
     return bytes(changed)
 
 
+def put(name, octets):
+    with open(os.path.join(HERE, name), "wb") as f:
+        f.write(octets)
+
+
 def write(name, octets):
     for end, text in ((".octets", octets), (".lines", model("capture", octets)), (".counts", model("count", octets))):
-        with open(os.path.join(HERE, name + end), "wb") as f:
-            f.write(text)
+        put(name + end, text)
 
 
 # ---- document 01's own capture
@@ -133,7 +148,7 @@ def season():
     yield frame(echo_reply(89))[:-4]             # the capture ends inside a frame
 
 
-# ---- for the sender: a file of packets (docs/SEND.md), and the line that the model makes of the same calls
+# ---- for the sender: a file of packets (docs/SEND.md), and the line that the model makes of the same calls; with 16 bits and with 32
 
 BATCH = datagram(921, 9, b"T-13.1 W40 T-13.3 W41 T-13.2 W44")
 ALARM = datagram(922, 911, b"WIND 44")
@@ -143,13 +158,15 @@ def record(lane, wait, packet):
     return lane + struct.pack(">HH", wait, len(packet)) + packet
 
 
-RECORDS = b"\x03" + record(b"L", 0, BATCH) + record(b"H", 40, ALARM) + record(b"L", 0, echo_reply(91))
-LINE = sent(load(b"l", BATCH) + calls(40) + load(b"h", ALARM) + calls(9000) + load(b"l", echo_reply(91)) + calls(5000))
+RECORDS = record(b"L", 0, BATCH) + record(b"H", 40, ALARM) + record(b"L", 0, echo_reply(91))
+CALLS = load(b"l", BATCH) + calls(40) + load(b"h", ALARM) + calls(9000) + load(b"l", echo_reply(91)) + calls(5000)
 
 
 write("marked", bytes.fromhex(MARKED))
 write("quiet-link", QUIET)
 write("season-later", b"".join(season()))
-write("alarm", LINE)
-with open(os.path.join(HERE, "alarm.records"), "wb") as f:
-    f.write(RECORDS)
+write("alarm", sent(CALLS))
+put("alarm.records", b"\x03" + RECORDS)
+put("alarm-32.records", b"\x03W\x20" + RECORDS)
+put("alarm-32.line", sent(CALLS, 32))
+assert received(sent(CALLS, 32), 32) == model("capture", sent(CALLS))  # so alarm.lines is for both

@@ -25,10 +25,12 @@ extern "C" {
 #define KUTA_STATE 64            /* a state, of either end */
 #define KUTA_LEAST_PACKET 2      /* the shortest and the longest packet */
 #define KUTA_LARGEST_PACKET 2048
-#define KUTA_SENDER_AREA 2050    /* the least length of the areas low and high */
-#define KUTA_RECEIVER_AREA 2051  /* the least length of the areas first and second */
+#define KUTA_SENDER_AREA 2050    /* the least length of the areas low and high, of an end opened with width 16 */
+#define KUTA_RECEIVER_AREA 2051  /* the least length of the areas first and second, likewise */
+#define KUTA_SENDER_AREA_32 2052 /* the same two with width 32; areas of these lengths are long enough for either width */
+#define KUTA_RECEIVER_AREA_32 2053
 
-/* ---- Settings: what both ends agreed on. Other bits are ignored. */
+/* ---- What both ends agreed on: settings, of which other bits are ignored, and the width of the check sequence, 16 or 32 bits */
 
 #define KUTA_ZXE 1 /* zero runs and pairs, the codes D3-FE */
 #define KUTA_PRE 2 /* preemption: a low packet may be broken off and resumed */
@@ -53,12 +55,13 @@ static inline unsigned kuta_kind(uint32_t answer) { return (unsigned)(answer >> 
 static inline unsigned kuta_mark(uint32_t answer) { return (unsigned)(answer >> 16 & 1); }
 static inline unsigned kuta_value(uint32_t answer) { return (unsigned)(answer & 0xFFFF); }
 
-/* Refusals. 1 to 4 refuse a call, which has then changed no octet of its state and of its areas. They are tested in the order 2, 3, 4, 1. 5
- * to 14 are what the receiver reports of a frame that brings no packet; the call itself was taken. */
+/* Refusals. 1 to 4 refuse a call, which has then changed no octet of its state and of its areas. The width is tested first, and
+ * refused 3; then the rest in the order 2, 3, 4, 1. 5 to 14 are what the receiver reports of a frame that brings no packet; the call itself
+ * was taken. */
 enum kuta_refusals {
     KUTA_BAD_LENGTH = 1,      /* load: a packet of fewer than 2 or more than 2,048 octets */
-    KUTA_SHORT_AREA = 2,      /* an area is shorter than its least length */
-    KUTA_BAD_STATE = 3,       /* the octets are no state (CLIBRARY.md), or one out of bounds (READING.md) */
+    KUTA_SHORT_AREA = 2,      /* an area is shorter than its least length, for the state's width */
+    KUTA_BAD_STATE = 3,       /* the width is neither 16 nor 32; the octets are no state (CLIBRARY.md), or one out of bounds (READING.md) */
     KUTA_LANE_LOADED = 4,     /* load: the lane's last packet is not sent yet */
     KUTA_PLAIN_FRAME = 5,     /* it begins FF: plain PPP, a restart of the link */
     KUTA_NOT_AGREED = 6,      /* a code that the settings do not allow */
@@ -77,12 +80,13 @@ enum kuta_refusals {
  * It is lent two areas, the same two at every call: one takes in what comes, the other holds what is kept of a packet that was broken off.
  * Between calls nobody else writes to them. */
 
-/* Opens a receiver, whatever the state held before. Answers KUTA_DONE. */
-uint32_t kuta_receiver_open(uint8_t state[KUTA_STATE], uint8_t settings);
+/* Opens a receiver, whatever the state held before. Answers KUTA_DONE. Refused 3: the width is neither 16 nor 32; the state stays. */
+uint32_t kuta_receiver_open(uint8_t state[KUTA_STATE], uint8_t settings, uint8_t width);
 
 /* Takes the next octet of the line. Answers KUTA_QUIET, KUTA_PACKET, KUTA_HELD or KUTA_REFUSED.
  * A packet stays where it is until the next call of this receiver.
- * Refused 2: first or second has fewer than KUTA_RECEIVER_AREA octets. Refused 3. Refused 5 to 14: reports of a frame. */
+ * Refused 2: first or second has fewer than KUTA_RECEIVER_AREA octets, or with width 32 KUTA_RECEIVER_AREA_32. Refused 3. Refused 5 to 14:
+ * reports of a frame. */
 uint32_t kuta_receive(uint8_t state[KUTA_STATE], uint8_t octet, uint8_t *first, size_t first_length, uint8_t *second, size_t second_length);
 
 /* How far a stretch of a line was read or written. */
@@ -102,17 +106,17 @@ kuta_stretch kuta_read_on(uint8_t state[KUTA_STATE], const uint8_t *octets, size
  * It has two lanes, low and high, and is lent an area for each, the same at every call. A high packet goes before a low one, and breaks it
  * off where preemption was agreed. Between the load of a packet and its closing flag nobody else writes to its area. */
 
-/* Opens a sender, whatever the state held before. Answers KUTA_DONE. */
-uint32_t kuta_sender_open(uint8_t state[KUTA_STATE], uint8_t settings);
+/* Opens a sender, whatever the state held before. Answers KUTA_DONE. Refused 3: the width is neither 16 nor 32; the state stays. */
+uint32_t kuta_sender_open(uint8_t state[KUTA_STATE], uint8_t settings, uint8_t width);
 
 /* Loads a packet into a lane; `area` is that lane's. Answers KUTA_DONE: the packet is copied to the area, and its octets are free again.
- * Refused 2: the area has fewer than KUTA_SENDER_AREA octets. Refused 3. Refused 4: the lane's packet is not sent yet, and only a load
- * tells so. Refused 1. */
+ * Refused 2: the area has fewer than KUTA_SENDER_AREA octets, or with width 32 KUTA_SENDER_AREA_32. Refused 3. Refused 4: the lane's packet
+ * is not sent yet, and only a load tells so. Refused 1. */
 uint32_t kuta_load_low(uint8_t state[KUTA_STATE], const uint8_t *packet, size_t packet_length, uint8_t *area, size_t area_length);
 uint32_t kuta_load_high(uint8_t state[KUTA_STATE], const uint8_t *packet, size_t packet_length, uint8_t *area, size_t area_length);
 
 /* The next octet to send. Answers KUTA_OCTET, KUTA_IDLE or KUTA_REFUSED, and in the last two cases changes nothing.
- * Refused 2: low or high has fewer than KUTA_SENDER_AREA octets. Refused 3. */
+ * Refused 2: low or high has fewer than KUTA_SENDER_AREA octets, or with width 32 KUTA_SENDER_AREA_32. Refused 3. */
 uint32_t kuta_next(uint8_t state[KUTA_STATE], const uint8_t *low, size_t low_length, const uint8_t *high, size_t high_length);
 
 /* Writes the next octets to `line`, up to and with the first flag (7E), as far as there is room: the same as kuta_next for each of them,
@@ -122,9 +126,13 @@ uint32_t kuta_next(uint8_t state[KUTA_STATE], const uint8_t *low, size_t low_len
 kuta_stretch kuta_write_on(uint8_t state[KUTA_STATE], const uint8_t *low, size_t low_length, const uint8_t *high, size_t high_length,
                            uint8_t *line, size_t line_length);
 
-/* ---- RFC 1662's check sequence: the register, from `start` on (FFFF), over octets. A weak symbol: a program's own goes before it. */
+/* ---- RFC 1662's check sequences, of 16 and of 32 bits: the register, from `start` on, over octets
+ *
+ * A register starts with all bits set (FFFF, FFFFFFFF). The FCS is its complement after the packet, low octet first; after packet and FCS
+ * the register is F0B8, or DEBB20E3. Weak symbols: a program's own go before them. */
 
 uint16_t pppfcs16(uint16_t start, const uint8_t *octets, size_t octets_length);
+uint32_t pppfcs32(uint32_t start, const uint8_t *octets, size_t octets_length);
 
 #ifdef __cplusplus
 }

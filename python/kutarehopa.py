@@ -29,6 +29,11 @@ A Receiver is fed a line as it comes, a Sender makes one. Here an urgent packet 
     Packet(octets=b'urgent', place=14)
     Packet(octets=b'123456789', place=25)
 
+Both ends are opened with what the link agreed on: the settings, and the width of the check sequence, 16 bits or 32:
+
+    >>> print(kuta.line([b"123456789"], width=32).hex(" ").upper())
+    0E 31 32 33 34 35 36 37 38 39 26 39 F4 CB 7E
+
 `python3 -m kutarehopa FILE..` prints what the program capture prints. docs/READING.md has the protocol, and says what
 a loss rate may count.
 """
@@ -43,7 +48,7 @@ from dataclasses import dataclass
 from typing import BinaryIO, Dict, Iterable, Iterator, List, Optional, Union
 
 __all__ = ["ZXE", "PRE", "Report", "Packet", "Held", "Refused", "RefusedCall", "LaneBusy", "Receiver", "Sender",
-           "reports", "tally", "line", "pppfcs16"]
+           "reports", "tally", "line", "pppfcs16", "pppfcs32"]
 
 ZXE = 1  # settings: zero runs and pairs, the codes D3 to FE
 PRE = 2  # settings: a packet may be broken off for an urgent one, and resumed
@@ -57,16 +62,17 @@ class _Stretch(ctypes.Structure):
 
 def _declared(library):
     """The library, its calls with the types of kutarehopa.h."""
-    answer, octets, length, settings = ctypes.c_uint32, ctypes.c_void_p, ctypes.c_size_t, ctypes.c_uint8
+    answer, octets, length, octet = ctypes.c_uint32, ctypes.c_void_p, ctypes.c_size_t, ctypes.c_uint8
     for name, result, *arguments in (
-            ("kuta_receiver_open", answer, octets, settings),
-            ("kuta_receive", answer, octets, ctypes.c_uint8, octets, length, octets, length),
+            ("kuta_receiver_open", answer, octets, octet, octet),
+            ("kuta_receive", answer, octets, octet, octets, length, octets, length),
             ("kuta_read_on", _Stretch, octets, octets, length, octets, length, octets, length),
-            ("kuta_sender_open", answer, octets, settings),
+            ("kuta_sender_open", answer, octets, octet, octet),
             ("kuta_load_low", answer, octets, octets, length, octets, length),
             ("kuta_load_high", answer, octets, octets, length, octets, length),
             ("kuta_write_on", _Stretch, octets, octets, length, octets, length, octets, length),
-            ("pppfcs16", ctypes.c_uint16, ctypes.c_uint16, octets, length)):
+            ("pppfcs16", ctypes.c_uint16, ctypes.c_uint16, octets, length),
+            ("pppfcs32", ctypes.c_uint32, ctypes.c_uint32, octets, length)):
         call = getattr(library, name)
         call.restype, call.argtypes = result, arguments
     return library
@@ -95,7 +101,7 @@ def _load():
 
 _library = _load()
 
-_STATE, _SENDER_AREA, _RECEIVER_AREA = 64, 2050, 2051
+_STATE = 64
 _PACKET, _HELD, _REFUSED = 1, 2, 3  # kinds of answers
 _PIECE = 65536  # how many octets of a capture are read at a time
 _ROOM = 4096    # more than any frame takes on the line, with its flag
@@ -122,6 +128,13 @@ def _number(given, least, most, what):
     if not least <= number <= most:
         raise ValueError(f"{what} must be from {least} to {most}, not {number}")
     return number
+
+
+def _width(given):
+    width = operator.index(given)
+    if width not in (16, 32):
+        raise ValueError(f"width must be 16 or 32, not {width}")
+    return width
 
 
 # ---- Reports and refusals
@@ -223,13 +236,17 @@ def _refused(number):
 
 class _End:
     """What both ends are: a state and two areas in memory of their own. Copies, and ends pickled, go their own way."""
+    _area: Dict[int, int]  # how many octets an area has, by the width
 
-    def _own(self, area):
+    def _own(self, opening, settings, width):
+        settings, width = _number(settings, 0, 255, "settings"), _width(width)
+        area = self._area[width]
         self._state = (ctypes.c_uint8 * _STATE)()
         self._areas = (ctypes.c_uint8 * area)(), (ctypes.c_uint8 * area)()
         self._lent = self._areas[0], area, self._areas[1], area
         self._place = 0
         self._lock = threading.Lock()  # a call of the library lets other threads run
+        opening(self._state, settings, width)
 
     @property
     def state(self) -> bytes:
@@ -240,6 +257,11 @@ class _End:
     def settings(self) -> int:
         return self._state[4]
 
+    @property
+    def width(self) -> int:
+        """Of the check sequence, in bits: 16 or 32."""
+        return self._state[1]
+
     def save(self) -> bytes:
         """All that the end is, for restore: its state, how many octets of the line it has seen, its areas."""
         with self._lock:
@@ -248,14 +270,16 @@ class _End:
     @classmethod
     def restore(cls, saved: bytes):
         """An end as it was when it was saved."""
-        saved, end = _octets(saved, "what was saved"), cls()
-        area = len(end._areas[0])
-        if len(saved) != _STATE + 8 + 2 * area:
+        saved = _octets(saved, "what was saved")
+        widths = [width for width, area in cls._area.items() if len(saved) == _STATE + 8 + 2 * area]
+        if not widths:
             raise ValueError(f"no {cls.__name__} was saved as {len(saved)} octets")
+        width, = widths
+        end, area = cls(width=width), cls._area[width]
         end._state[:] = saved[:_STATE]
         end._place = int.from_bytes(saved[_STATE:_STATE + 8], "little")
         end._areas[0][:], end._areas[1][:] = saved[-2 * area:-area], saved[-area:]
-        if end._probe() == _REFUSED << 24 | 3:
+        if end.width != width or end._probe() == _REFUSED << 24 | 3:
             raise RefusedCall(3)
         return end
 
@@ -264,15 +288,15 @@ class _End:
 
 
 class Receiver(_End):
-    """The receiving end of a line."""
+    """The receiving end of a line, opened with its settings and the width of its check sequence, 16 or 32."""
 
-    def __init__(self, settings: int = ZXE | PRE):
-        settings = _number(settings, 0, 255, "settings")
-        self._own(_RECEIVER_AREA)
-        _library.kuta_receiver_open(self._state, settings)
+    _area = {16: 2051, 32: 2053}
+
+    def __init__(self, settings: int = ZXE | PRE, width: int = 16):
+        self._own(_library.kuta_receiver_open, settings, width)
 
     def __repr__(self):
-        return f"<Receiver, settings {self.settings}, {self._place} octets read>"
+        return f"<Receiver, settings {self.settings}, width {self.width}, {self._place} octets read>"
 
     @property
     def place(self) -> int:
@@ -307,16 +331,16 @@ class Receiver(_End):
 
 
 class Sender(_End):
-    """The sending end of a line. It has two lanes, with room for one packet each; an urgent packet goes first, and
-    with PRE breaks off the other."""
+    """The sending end of a line, opened with its settings and the width of its check sequence, 16 or 32. It has two
+    lanes, with room for one packet each; an urgent packet goes first, and with PRE breaks off the other."""
 
-    def __init__(self, settings: int = ZXE | PRE):
-        settings = _number(settings, 0, 255, "settings")
-        self._own(_SENDER_AREA)
-        _library.kuta_sender_open(self._state, settings)
+    _area = {16: 2050, 32: 2052}
+
+    def __init__(self, settings: int = ZXE | PRE, width: int = 16):
+        self._own(_library.kuta_sender_open, settings, width)
 
     def __repr__(self):
-        return f"<Sender, settings {self.settings}, {self._place} octets written>"
+        return f"<Sender, settings {self.settings}, width {self.width}, {self._place} octets written>"
 
     @property
     def place(self) -> int:
@@ -328,7 +352,7 @@ class Sender(_End):
         packet = _octets(packet, "a packet")
         load = _library.kuta_load_high if urgent else _library.kuta_load_low
         with self._lock:
-            answer = load(self._state, packet, len(packet), self._areas[bool(urgent)], _SENDER_AREA)
+            answer = load(self._state, packet, len(packet), self._areas[bool(urgent)], len(self._areas[0]))
         if answer >> 24 == _REFUSED:
             raise _refused(answer & 0xFFFF)
 
@@ -349,28 +373,29 @@ class Sender(_End):
 
     def _probe(self):
         """How the state answers a packet too short to be loaded."""
-        return _library.kuta_load_low(self._state, None, 0, self._areas[0], _SENDER_AREA)
+        return _library.kuta_load_low(self._state, None, 0, self._areas[0], len(self._areas[0]))
 
 
 # ---- Whole lines
 
-def line(packets: Iterable[bytes], settings: int = ZXE | PRE) -> bytes:
+def line(packets: Iterable[bytes], settings: int = ZXE | PRE, width: int = 16) -> bytes:
     """The octets of a line that carries these packets one after the other."""
     if isinstance(packets, (str, bytes, bytearray, memoryview)):
         raise TypeError("line wants packets, not one packet: line([packet])")
-    sender, parts = Sender(settings), []
+    sender, parts = Sender(settings, width), []
     for packet in packets:
         sender.load(packet)
         parts.append(sender.rest())
     return b"".join(parts)
 
 
-def reports(capture: Union[str, os.PathLike, BinaryIO, bytes], settings: int = ZXE | PRE) -> Iterator[Report]:
+def reports(capture: Union[str, os.PathLike, BinaryIO, bytes], settings: int = ZXE | PRE,
+            width: int = 16) -> Iterator[Report]:
     """The reports of a whole capture: of a path (str or Path), a file open for reading octets, or octets.
 
     Files are read in pieces, and reports come as soon as their octets are there. What follows the last flag gives none.
     """
-    receiver = Receiver(settings)
+    receiver = Receiver(settings, width)
     if isinstance(capture, (str, os.PathLike)):
         return _of_path(receiver, capture)
     if hasattr(capture, "read"):
@@ -408,14 +433,20 @@ def tally(of: Iterable[Report]) -> Dict[str, int]:
 
 
 def pppfcs16(octets, start: int = 0xFFFF) -> int:
-    """RFC 1662's register over octets. Behind a packet goes its complement, low octet first."""
+    """RFC 1662's register of 16 bits over octets. Behind a packet goes its complement, low octet first."""
     octets = _octets(octets)
     return _library.pppfcs16(_number(start, 0, 0xFFFF, "start"), octets, len(octets))
 
 
+def pppfcs32(octets, start: int = 0xFFFFFFFF) -> int:
+    """RFC 1662's register of 32 bits, likewise. Its complement is what zlib.crc32 gives."""
+    octets = _octets(octets)
+    return _library.pppfcs32(_number(start, 0, 0xFFFFFFFF, "start"), octets, len(octets))
+
+
 # ---- As a program
 
-def _print_all(names):
+def _print_all(names, width):
     """The lines of each file, under its name where there are several; whether all could be read."""
     gap, good = "", True
     for name in names:
@@ -426,7 +457,7 @@ def _print_all(names):
                 if len(names) > 1:
                     print(f"{gap}==> {shown} <==")
                     gap = "\n"
-                receiver = Receiver()
+                receiver = Receiver(width=width)
                 piece = first
                 while piece:
                     for report in receiver.feed(piece):
@@ -444,12 +475,13 @@ def _print_all(names):
 def _main():
     parser = argparse.ArgumentParser(prog="kutarehopa", description="Reads captures (settings 3) and prints a line for "
                                      "each report: P, a packet; H, a fragment held; R, a refused frame.")
+    parser.add_argument("--width", type=int, choices=(16, 32), default=16, help="bits of the check sequence; 16 if not told")
     parser.add_argument("files", nargs="*", metavar="FILE", default=["-"], help="- or none is standard input")
-    names = parser.parse_args().files
+    given = parser.parse_args()
     if sys.stdout is None:
         sys.exit("kutarehopa: standard output: cannot be written: Bad file descriptor")
     try:
-        good = _print_all(names)
+        good = _print_all(given.files, given.width)
         sys.stdout.flush()
         return 0 if good else 1
     except BrokenPipeError:

@@ -7,6 +7,7 @@ import doctest
 import glob
 import gzip
 import io
+import itertools
 import os
 import pathlib
 import pickle
@@ -17,6 +18,7 @@ import sys
 import tempfile
 import threading
 import unittest
+import zlib
 
 import kutarehopa as kuta
 from kutarehopa import Held, LaneBusy, Packet, Receiver, Refused, RefusedCall, Sender
@@ -27,6 +29,8 @@ CAPTURES = sorted(glob.glob(os.path.join(ROOT, "tests", "captures", "*.octets"))
                   + glob.glob(os.path.join(ROOT, "examples", "*.octets")))
 NINE = b"123456789"
 NINE_SENT = b"\x0c123456789\x6e\x90\x7e"
+NINE_SENT_32 = b"\x0e123456789\x26\x39\xf4\xcb\x7e"
+WIDTHS = 16, 32
 # A packet broken off behind three octets, an urgent one, the rest of the first, and a frame that is too short.
 MARKED = b"\x0c123\x7e" + NINE_SENT + b"\xd1\x09456789\x6e\x90\x7e" + b"\xd3\x7e"
 MARKED_REPORTS = [Held(3, False, 4), Packet(NINE, 17), Packet(NINE, 28), Refused(13, 30)]
@@ -186,8 +190,9 @@ class Receiving(unittest.TestCase):
                 receiver.feed(wrong)
             with self.assertRaises(TypeError):
                 Sender().load(wrong)
-            with self.assertRaises(TypeError):
-                kuta.pppfcs16(wrong)
+            for register in (kuta.pppfcs16, kuta.pppfcs32):
+                with self.assertRaises(TypeError):
+                    register(wrong)
             if not isinstance(wrong, str):
                 with self.assertRaises(TypeError):
                     kuta.reports(wrong)
@@ -259,8 +264,8 @@ class Sending(unittest.TestCase):
     def test_round_trip(self):
         """Packets of both lanes, loaded whenever there is room, at random places of the line."""
         rng = random.Random(3)
-        for settings in (3, 2, 1, 0):
-            sender, receiver, sent, received = Sender(settings), Receiver(settings), ([], []), []
+        for settings, width in itertools.product((3, 2, 1, 0), WIDTHS):
+            sender, receiver, sent, received = Sender(settings, width), Receiver(settings, width), ([], []), []
             for _ in range(600):
                 urgent = rng.random() < 0.5
                 packet = (b"U" if urgent else b"L") + random_packet(rng)[:2047]
@@ -281,10 +286,10 @@ class Sending(unittest.TestCase):
 
     def test_longest(self):
         for packet in (bytes(2048), b"\x7e" * 2048, b"\xff" * 2048):
-            for settings in range(4):
-                octets = kuta.line([packet], settings)
-                self.assertLessEqual(len(octets), 2061)
-                self.assertEqual(list(kuta.reports(octets, settings)), [Packet(packet, len(octets) - 1)])
+            for settings, width in itertools.product(range(4), WIDTHS):
+                octets = kuta.line([packet], settings, width)
+                self.assertLessEqual(len(octets), 2059 + width // 8)
+                self.assertEqual(list(kuta.reports(octets, settings, width)), [Packet(packet, len(octets) - 1)])
 
     def test_refusals(self):
         sender = Sender()
@@ -311,6 +316,86 @@ class Sending(unittest.TestCase):
                 kuta.line(wrong)
 
 
+class Widths(unittest.TestCase):
+    """A check sequence of 16 bits, and one of 32."""
+
+    def test_sent_and_received(self):
+        for packet, settings, octets in (
+                (NINE, 3, NINE_SENT_32),
+                (b"\0\0", 3, b"\xe0\x05\xff\x12\xd9\x41\x7e"),
+                (b"\0\0", 0, b"\x01\x01\x05\xff\x12\xd9\x41\x7e"),
+                (b"\x7e\x7e", 3, b"\x07\0\0\xbc\x1a\xd8\x47\x7e")):
+            found = [Packet(packet, len(octets) - 1)]
+            self.assertEqual(kuta.line([packet], settings, 32), octets)
+            self.assertEqual(Receiver(settings, 32).feed(octets), found)
+            self.assertEqual(list(kuta.reports(io.BytesIO(octets), settings, width=32)), found)
+
+    def test_broken_off(self):
+        sender, receiver = Sender(width=32), Receiver(width=32)
+        sender.load(NINE)
+        octets = sender.write(4)
+        sender.load(b"urgent", urgent=True)
+        self.assertEqual(receiver.feed(octets + sender.rest()),
+                         [Held(3, False, 4), Packet(b"urgent", 16), Packet(NINE, 29)])
+
+    def test_lengths(self):
+        """Refusal 13 below 4 octets, or 6; 10 above 2,051, or 2,053; else the check sequence decides."""
+        for octets, at_16, at_32 in (
+                (b"\x04111\x7e", 13, 13), (b"\x051111\x7e", 14, 13), (b"\x0611111\x7e", 14, 13),
+                (b"\x07111111\x7e", 14, 14),
+                (b"\xdf" * 136 + b"\xdb\x7e", 14, 14), (b"\xdf" * 136 + b"\xdc\x7e", 10, 14),
+                (b"\xdf" * 136 + b"\xdd\x7e", 10, 14), (b"\xdf" * 136 + b"\xde\x7e", 10, 10)):
+            self.assertEqual(Receiver(width=16).feed(octets), [Refused(at_16, len(octets) - 1)])
+            self.assertEqual(Receiver(width=32).feed(octets), [Refused(at_32, len(octets) - 1)])
+
+    def test_damaged(self):
+        for width, octets in zip(WIDTHS, (NINE_SENT, NINE_SENT_32)):
+            for at, bit in itertools.product(range(len(octets) - 1), range(8)):
+                damaged = bytearray(octets)
+                damaged[at] ^= 1 << bit
+                found = Receiver(width=width).feed(damaged)
+                self.assertTrue(found and not any(isinstance(report, Packet) for report in found))
+
+    def test_ends_that_do_not_agree(self):
+        self.assertEqual(Receiver(width=32).feed(NINE_SENT), [Refused(14, 12)])
+        self.assertEqual(Receiver(width=16).feed(NINE_SENT_32), [Refused(14, 14)])
+
+    def test_stored_line(self):
+        """The sample line of 32 bits has the packets of the one of 16."""
+        found = kuta.reports(os.path.join(ROOT, "examples", "alarm-32.line"), width=32)
+        self.assertEqual(lines(found), stored(os.path.join(ROOT, "examples", "alarm.octets"), "lines"))
+
+    def test_as_zlib(self):
+        """Frames with the check sequence of zlib: a sender loads them so, and a receiver takes them."""
+        rng = random.Random(4)
+        for _ in range(300):
+            packet = bytes(rng.randrange(1, 256) for _ in range(rng.randint(2, 200)))
+            frame = packet + zlib.crc32(packet).to_bytes(4, "little")
+            sender = Sender(width=32)
+            sender.load(packet)
+            self.assertEqual(sender.save()[72:72 + len(frame)], frame)
+            if 0 not in frame:
+                octets = (bytes((len(frame) + 1,)) + frame).replace(b"\x7e", b"\0") + b"\x7e"
+                self.assertEqual(sender.rest(), octets)
+                self.assertEqual(Receiver(width=32).feed(octets), [Packet(packet, len(octets) - 1)])
+
+    def test_the_end_tells_its_width(self):
+        for end in (Receiver, Sender):
+            self.assertEqual((end().width, end(0).width, end(width=16).width, end(0, 32).width), (16, 16, 16, 32))
+            self.assertEqual((end(7, 32).settings, end(7, 32).state[1], len(end(width=32).state)), (7, 32, 64))
+            self.assertIn("width 32", repr(end(width=32)))
+
+    def test_no_other(self):
+        for take in (lambda width: Receiver(3, width), lambda width: Sender(width=width),
+                     lambda width: kuta.reports(b"", width=width), lambda width: kuta.line([], 3, width)):
+            for wrong in (0, 1, 8, 15, 17, 24, 31, 33, 64, 255, 256 + 16, -16):
+                with self.assertRaisesRegex(ValueError, f"width must be 16 or 32, not {wrong}$"):
+                    take(wrong)
+            for wrong in ("16", None, 16.0, b"\x10"):
+                with self.assertRaises(TypeError):
+                    take(wrong)
+
+
 class Saving(unittest.TestCase):
     def test_receiver(self):
         for cut in range(len(MARKED)):
@@ -323,26 +408,37 @@ class Saving(unittest.TestCase):
             self.assertEqual(found + receiver.feed(MARKED[cut:]), MARKED_REPORTS)
 
     def test_sender(self):
-        sender = Sender()
-        sender.load(NINE)
-        sender.write(4)
-        sender.load(b"urgent", urgent=True)
-        others = [Sender.restore(bytearray(sender.save())), copy.copy(sender), pickle.loads(pickle.dumps(sender))]
-        rest = sender.rest()
-        for other in others:
-            self.assertEqual(other.place, 4)
-            self.assertEqual(other.rest(), rest)
-            self.assertEqual(other.save(), sender.save())
+        for width in WIDTHS:
+            sender = Sender(width=width)
+            sender.load(NINE)
+            sender.write(4)
+            sender.load(b"urgent", urgent=True)
+            others = [Sender.restore(bytearray(sender.save())), copy.copy(sender), pickle.loads(pickle.dumps(sender))]
+            rest = sender.rest()
+            for other in others:
+                self.assertEqual((other.place, other.width), (4, width))
+                self.assertEqual(other.rest(), rest)
+                self.assertEqual(other.save(), sender.save())
+
+    def test_receiver_at_32_bits(self):
+        line, found = b"\x0e123\x7e" + NINE_SENT_32, [Held(3, False, 4), Packet(NINE, 19)]
+        for cut in range(len(line)):
+            receiver = Receiver(width=32)
+            before = receiver.feed(line[:cut])
+            other = pickle.loads(pickle.dumps(receiver))
+            self.assertEqual((other.state, other.place, other.width), (receiver.state, cut, 32))
+            self.assertEqual(before + other.feed(line[cut:]), found)
 
     def test_what_was_not_saved(self):
-        for end, other in ((Receiver, Sender), (Sender, Receiver)):
-            saved = end().save()
-            self.assertEqual((saved[:64], len(end().state)), (end().state, 64))
-            for wrong in (b"", saved[:-1], other().save()):
+        for (end, other), width in itertools.product(((Receiver, Sender), (Sender, Receiver)), WIDTHS):
+            saved = end(width=width).save()
+            self.assertEqual((saved[:64], len(end().state)), (end(width=width).state, 64))
+            for wrong in (b"", saved[:-1], saved[:72], *(other(width=each).save() for each in WIDTHS)):
                 with self.assertRaises(ValueError):
                     end.restore(wrong)
             at = 5 if end is Sender else 22  # the lane on the line; the last block
             spoilt = [saved[:at] + octet + saved[at + 1:] for octet in (b"\x01", b"\x03")]
+            spoilt += [saved[:1] + bytes((octet,)) + saved[2:] for octet in (0, 24, 48 - width, 255)]  # the width
             for wrong in (bytes(len(saved)), *spoilt):
                 with self.assertRaises(RefusedCall) as caught:
                     end.restore(wrong)
@@ -360,6 +456,20 @@ class CheckSequence(unittest.TestCase):
         for wrong in (-1, 65536):
             with self.assertRaises(ValueError):
                 kuta.pppfcs16(NINE, wrong)
+
+    def test_register_of_32_bits(self):
+        self.assertEqual(kuta.pppfcs32(NINE), 0x340BC6D9)
+        self.assertEqual(kuta.pppfcs32(b""), 0xFFFFFFFF)
+        self.assertEqual(kuta.pppfcs32(NINE[4:], kuta.pppfcs32(NINE[:4])), 0x340BC6D9)
+        self.assertEqual(kuta.pppfcs32(NINE + b"\x26\x39\xf4\xcb"), 0xDEBB20E3)
+        rng = random.Random(5)
+        for length in (*range(300), 2048, 2052, 70000):
+            octets, start = bytes(rng.randrange(256) for _ in range(length)), rng.getrandbits(32)
+            self.assertEqual(kuta.pppfcs32(octets) ^ 0xFFFFFFFF, zlib.crc32(octets))
+            self.assertEqual(kuta.pppfcs32(octets, start ^ 0xFFFFFFFF) ^ 0xFFFFFFFF, zlib.crc32(octets, start))
+        for wrong in (-1, 1 << 32):
+            with self.assertRaises(ValueError):
+                kuta.pppfcs32(NINE, wrong)
 
 
 class Module(unittest.TestCase):
@@ -392,6 +502,14 @@ class Program(unittest.TestCase):
         status, out, error = self.run_with(["-m", "kutarehopa", one, "no such file", one])
         self.assertEqual((status, out), (1, f"==> {one} <==\n{said}\n==> {one} <==\n{said}"))
         self.assertEqual(error, "kutarehopa: no such file: cannot be read: No such file or directory\n")
+
+    def test_width(self):
+        line, said = os.path.join("examples", "alarm-32.line"), stored(os.path.join(ROOT, "examples", "alarm.octets"), "lines")
+        self.assertEqual(self.run_with(["-m", "kutarehopa", "--width", "32", line]), (0, said, ""))
+        self.assertNotEqual(self.run_with(["-m", "kutarehopa", line])[1], said)
+        status, out, error = self.run_with(["-m", "kutarehopa", "--width", "24", line])
+        self.assertEqual((status, out), (2, ""))
+        self.assertIn("--width", error)
 
     def test_nobody_reads_on(self):
         command = f"'{sys.executable}' -B -m kutarehopa - | head -n 1"

@@ -1,4 +1,5 @@
-/* The C library with bad input: any 64 octets as a state, areas that are too short or not there, packets and stretches of any length.
+/* The C library with bad input: any 64 octets as a state, any width, areas that are too short or not there, packets and stretches of any
+ * length.
  *
  * Each call is held against the rules below, which are its own, and each stretch against the calls octet by octet. Prints a line for each
  * failure and one at the end. Exit status: 0 where nothing failed, else 1. */
@@ -11,8 +12,6 @@
 
 enum { FLAG = 0x7E };
 enum { RECEIVER_OCTETS = 26, SENDER_OCTETS = 38 }; /* how many octets of a state its layout lists (docs/CLIBRARY.md) */
-enum { FCS_OCTETS = 2 };
-enum { MOST_DECODED = KUTA_RECEIVER_AREA, LEAST_FRAME = KUTA_LEAST_PACKET + FCS_OCTETS, LONGEST_FRAME = KUTA_SENDER_AREA };
 
 /* ---- The memory that a call is handed. Around each part lie guard octets, which no call may change. */
 
@@ -20,9 +19,9 @@ enum { GUARD = 64, LINE = 2304 };
 
 struct memory {
     uint8_t state[GUARD + KUTA_STATE + GUARD];
-    uint8_t one[GUARD + KUTA_RECEIVER_AREA + GUARD];   /* the area low, or first */
-    uint8_t other[GUARD + KUTA_RECEIVER_AREA + GUARD]; /* the area high, or second */
-    uint8_t line[GUARD + LINE + GUARD];                /* octets of the line, or a packet */
+    uint8_t one[GUARD + KUTA_RECEIVER_AREA_32 + GUARD];   /* the area low, or first */
+    uint8_t other[GUARD + KUTA_RECEIVER_AREA_32 + GUARD]; /* the area high, or second */
+    uint8_t line[GUARD + LINE + GUARD];                   /* octets of the line, or a packet */
 };
 
 /* The lengths that go with it. A part of length 0 is handed over as NULL. */
@@ -48,9 +47,45 @@ static void draw_octets(uint8_t *octets, size_t count) {
     while (count-- > 0) *octets++ = (uint8_t)(draw() >> 24);
 }
 
-/* ---- States, by docs/READING.md ("In bounds") and the layout */
+/* ---- Widths: what the width of the check makes of lengths */
 
 enum end { RECEIVER, SENDER };
+
+static const uint8_t widths[] = {16, 32};
+
+static int is_width(unsigned width) { return width == 16 || width == 32; }
+
+static unsigned fcs_octets(unsigned width) { return width / 8; }
+
+static unsigned longest_frame(unsigned width) { return KUTA_LARGEST_PACKET + fcs_octets(width); }
+
+static unsigned most_decoded(unsigned width) { return longest_frame(width) + 1; }
+
+static size_t least_area(enum end end, unsigned width) {
+    if (width == 32) return end == RECEIVER ? KUTA_RECEIVER_AREA_32 : KUTA_SENDER_AREA_32;
+    return end == RECEIVER ? KUTA_RECEIVER_AREA : KUTA_SENDER_AREA;
+}
+
+/* Most often one of the two. */
+static uint8_t draw_width(void) { return (uint8_t)(below(16) == 0 ? below(256) : widths[below(2)]); }
+
+/* RFC 1662's register over octets, bit by bit. */
+static uint32_t register_over(unsigned width, uint32_t start, const uint8_t *octets, size_t count) {
+    const uint32_t polynomial = width == 16 ? 0x8408 : 0xEDB88320;
+    int bit;
+    while (count-- > 0) {
+        start ^= *octets++;
+        for (bit = 0; bit < 8; bit++) start = start >> 1 ^ (start & 1 ? polynomial : 0);
+    }
+    return start;
+}
+
+/* Whether a frame's FCS fits. */
+static int is_good(unsigned width, const uint8_t *frame, size_t length) {
+    return width == 16 ? register_over(16, 0xFFFF, frame, length) == 0xF0B8 : register_over(32, 0xFFFFFFFF, frame, length) == 0xDEBB20E3;
+}
+
+/* ---- States, by docs/READING.md ("In bounds") and the layout */
 
 static unsigned number_at(const uint8_t *place) { return place[0] + 256u * place[1]; }
 
@@ -63,8 +98,9 @@ static int receiver_spelled(const uint8_t *s) { return s[0] == 1 && s[10] <= 1 &
 
 static int receiver_in_bounds(const uint8_t *s) {
     const unsigned decoded = number_at(s + 11), left = s[20], zeros = s[21], last = s[22], resumed = s[24], refusal = s[25];
+    const unsigned most = most_decoded(s[1]);
     const int in_frame = s[23] == 1, held = s[13] == 1;
-    if (decoded > MOST_DECODED || (held && number_at(s + 14) > MOST_DECODED) || left > 207 || zeros > 2) return 0;
+    if (decoded > most || (held && number_at(s + 14) > most) || left > 207 || zeros > 2) return 0;
     if (refusal != 0 && (refusal < KUTA_PLAIN_FRAME || refusal > KUTA_TOO_LONG)) return 0;
     if (!in_frame) return decoded == 0 && left == 0 && zeros == 0 && last == 0 && resumed == 0 && refusal == 0;
     if (refusal != 0) return 1;
@@ -73,15 +109,16 @@ static int receiver_in_bounds(const uint8_t *s) {
 
 static int sender_spelled(const uint8_t *s) { return s[0] == 1 && s[5] <= 2 && s[6] <= 1 && s[7] <= 1; }
 
-static int lane_in_bounds(unsigned length, unsigned position) {
-    return (length == 0 || (length >= LEAST_FRAME && length <= LONGEST_FRAME)) && position <= length + 1;
+static int lane_in_bounds(unsigned width, unsigned length, unsigned position) {
+    const int is_frame = length >= KUTA_LEAST_PACKET + fcs_octets(width) && length <= longest_frame(width);
+    return (length == 0 || is_frame) && position <= length + 1;
 }
 
 static int sender_in_bounds(const uint8_t *s) {
     const unsigned low = number_at(s + 8), low_position = number_at(s + 10), high = number_at(s + 12), high_position = number_at(s + 14);
     const unsigned lane = s[5], suspended = s[6], cut_due = s[7], left = s[16], zeros = s[17];
     const unsigned length = lane == 1 ? low : high, position = lane == 1 ? low_position : high_position;
-    if (!lane_in_bounds(low, low_position) || !lane_in_bounds(high, high_position)) return 0;
+    if (!lane_in_bounds(s[1], low, low_position) || !lane_in_bounds(s[1], high, high_position)) return 0;
     if (left > 207 || zeros > 2 || (left == 0 && zeros > 0)) return 0;
     if (lane == 0 && (left > 0 || cut_due)) return 0;
     if (lane != 0 && (length == 0 || position + left + zeros > length + 1)) return 0;
@@ -89,18 +126,9 @@ static int sender_in_bounds(const uint8_t *s) {
     return !cut_due || (lane == 1 && left == 0);
 }
 
+/* Of octets with a good width. */
 static int stands(enum end end, const uint8_t *state) {
     return end == RECEIVER ? receiver_spelled(state) && receiver_in_bounds(state) : sender_spelled(state) && sender_in_bounds(state);
-}
-
-/* RFC 1662's register over octets, bit by bit. */
-static unsigned register_over(unsigned start, const uint8_t *octets, size_t count) {
-    int bit;
-    while (count-- > 0) {
-        start ^= *octets++;
-        for (bit = 0; bit < 8; bit++) start = start >> 1 ^ (start & 1 ? 0x8408 : 0);
-    }
-    return start;
 }
 
 /* ---- The calls, each on a memory and lengths */
@@ -172,8 +200,8 @@ static void check(int holds, const char *rule, const char *call, struct lengths 
     putchar('\n');
 }
 
-static int is_short(enum call call, struct lengths n) {
-    const size_t least = end_of(call) == RECEIVER ? KUTA_RECEIVER_AREA : KUTA_SENDER_AREA;
+static int is_short(enum call call, unsigned width, struct lengths n) {
+    const size_t least = least_area(end_of(call), width);
     return (call != LOAD_HIGH && n.one < least) || (call != LOAD_LOW && n.other < least);
 }
 
@@ -185,9 +213,10 @@ static int is_bad_length(enum call call, size_t packet) {
     return (call == LOAD_LOW || call == LOAD_HIGH) && (packet < KUTA_LEAST_PACKET || packet > KUTA_LARGEST_PACKET);
 }
 
-/* The number by which the call has to be refused, or 0. */
+/* The number by which the call has to be refused, or 0. The width goes first, since the least lengths follow it. */
 static unsigned due_refusal(enum call call, const uint8_t *state, struct lengths n) {
-    if (is_short(call, n)) return KUTA_SHORT_AREA;
+    if (!is_width(state[1])) return KUTA_BAD_STATE;
+    if (is_short(call, state[1], n)) return KUTA_SHORT_AREA;
     if (!stands(end_of(call), state)) return KUTA_BAD_STATE;
     if (is_loaded(call, state)) return KUTA_LANE_LOADED;
     return is_bad_length(call, n.line) ? KUTA_BAD_LENGTH : 0;
@@ -198,21 +227,22 @@ static int same(const struct memory *m, const struct memory *as) { return memcmp
 /* Nothing is changed but what the call may change: listed octets of the state, and what it writes to. */
 static int only_its_own(enum call call, const struct memory *m, struct lengths n, size_t octets) {
     static struct memory expected;
+    const size_t frame = n.line + fcs_octets(before.state[GUARD + 1]);
     expected = before;
     memcpy(expected.state + GUARD, m->state + GUARD, end_of(call) == RECEIVER ? RECEIVER_OCTETS : SENDER_OCTETS);
     if (call == RECEIVE || call == READ_ON) {
         memcpy(expected.one + GUARD, m->one + GUARD, n.one);
         memcpy(expected.other + GUARD, m->other + GUARD, n.other);
     }
-    if (call == LOAD_LOW) memcpy(expected.one + GUARD, m->one + GUARD, n.line + FCS_OCTETS);
-    if (call == LOAD_HIGH) memcpy(expected.other + GUARD, m->other + GUARD, n.line + FCS_OCTETS);
+    if (call == LOAD_LOW) memcpy(expected.one + GUARD, m->one + GUARD, frame);
+    if (call == LOAD_HIGH) memcpy(expected.other + GUARD, m->other + GUARD, frame);
     if (call == WRITE_ON) memcpy(expected.line + GUARD, m->line + GUARD, octets);
     return same(m, &expected);
 }
 
 /* The area of a load that was done has the packet and its FCS. */
-static int has_frame(const uint8_t *area, const uint8_t *packet, size_t length) {
-    return memcmp(area, packet, length) == 0 && register_over(0xFFFF, area, length + FCS_OCTETS) == 0xF0B8;
+static int has_frame(unsigned width, const uint8_t *area, const uint8_t *packet, size_t length) {
+    return memcmp(area, packet, length) == 0 && is_good(width, area, length + fcs_octets(width));
 }
 
 static int is_answer_of(enum call call, uint32_t answer) {
@@ -230,14 +260,24 @@ static int is_answer_of(enum call call, uint32_t answer) {
     return (kind == KUTA_OCTET && value <= 255) || answer == (uint32_t)KUTA_IDLE << 24;
 }
 
+/* The area of a packet that was delivered has its FCS behind it. */
+static int is_delivered(unsigned width, const struct memory *m, uint32_t answer) {
+    const size_t length = kuta_value(answer);
+    if (length < KUTA_LEAST_PACKET || length > KUTA_LARGEST_PACKET) return 0;
+    return is_good(width, (kuta_mark(answer) ? m->other : m->one) + GUARD, length + fcs_octets(width));
+}
+
 /* A call that was not refused. */
 static void check_taken(enum call call, const struct memory *m, struct lengths n, kuta_stretch got) {
     const char *const name = call_names[call];
+    const unsigned width = before.state[GUARD + 1];
     check(is_answer_of(call, got.answer), "an answer that it has", name, n);
     check(only_its_own(call, m, n, got.octets), "nothing else is changed", name, n);
+    check(m->state[GUARD + 1] == width, "the width stays", name, n);
     check(stands(end_of(call), m->state + GUARD), "the state stays in bounds", name, n);
-    if (call == LOAD_LOW) check(has_frame(m->one + GUARD, m->line + GUARD, n.line), "the frame is loaded", name, n);
-    if (call == LOAD_HIGH) check(has_frame(m->other + GUARD, m->line + GUARD, n.line), "the frame is loaded", name, n);
+    if (call == LOAD_LOW) check(has_frame(width, m->one + GUARD, m->line + GUARD, n.line), "the frame is loaded", name, n);
+    if (call == LOAD_HIGH) check(has_frame(width, m->other + GUARD, m->line + GUARD, n.line), "the frame is loaded", name, n);
+    if (kuta_kind(got.answer) == KUTA_PACKET) check(is_delivered(width, m, got.answer), "a packet and its FCS", name, n);
     if (kuta_kind(got.answer) == KUTA_IDLE) check(same(m, &before), "Idle changes nothing", name, n);
 }
 
@@ -280,23 +320,31 @@ static void try_out(enum call call, struct memory *m, size_t one, size_t other, 
     *m = before;
 }
 
-/* An opening is done whatever the octets were, and writes what the layout lists. */
-static void try_open(enum end end, struct memory *m) {
+static uint32_t open_end(enum end end, struct memory *m, uint8_t settings, uint8_t width) {
+    uint8_t *const state = m->state + GUARD;
+    return end == RECEIVER ? kuta_receiver_open(state, settings, width) : kuta_sender_open(state, settings, width);
+}
+
+/* An opening is done whatever the octets were, and writes what the layout lists. With a width that is neither 16 nor 32 it is refused. */
+static void try_open(enum end end, struct memory *m, uint8_t width) {
     static const struct lengths none = {0, 0, 0};
     static struct memory expected;
     const char *const name = end == RECEIVER ? "receiver_open" : "sender_open";
-    const uint8_t settings = (uint8_t)(draw() >> 24), head[] = {1, 16, 0, 8, settings};
-    uint8_t *const state = m->state + GUARD;
+    const uint8_t settings = (uint8_t)(draw() >> 24), head[] = {1, width, 0, 8, settings};
     uint32_t answer;
     before = expected = *m;
-    memset(expected.state + GUARD, 0, end == RECEIVER ? RECEIVER_OCTETS : SENDER_OCTETS);
-    memcpy(expected.state + GUARD, head, sizeof head);
-    answer = end == RECEIVER ? kuta_receiver_open(state, settings) : kuta_sender_open(state, settings);
-    check(answer == (uint32_t)KUTA_DONE << 24 && same(m, &expected), "a fresh state", name, none);
+    answer = open_end(end, m, settings, width);
+    if (is_width(width)) {
+        memset(expected.state + GUARD, 0, end == RECEIVER ? RECEIVER_OCTETS : SENDER_OCTETS);
+        memcpy(expected.state + GUARD, head, sizeof head);
+        check(answer == (uint32_t)KUTA_DONE << 24 && same(m, &expected), "a fresh state", name, none);
+    } else {
+        check(answer == ((uint32_t)KUTA_REFUSED << 24 | KUTA_BAD_STATE) && same(m, &expected), "a wrong width is refused", name, none);
+    }
     *m = before;
 }
 
-/* ---- One state: each call with areas that are long enough, one octet too short and not there */
+/* ---- One state: each call with areas that are long enough, one octet too short, as long as the other width wants them, and not there */
 
 static const size_t packet_lengths[] = {0, 1, 2, 2048, 2049};
 
@@ -312,11 +360,15 @@ static void try_areas(enum end end, struct memory *m, size_t one, size_t other) 
 }
 
 static void try_state(enum end end, struct memory *m) {
-    const size_t least = end == RECEIVER ? KUTA_RECEIVER_AREA : KUTA_SENDER_AREA;
-    try_open(end, m);
+    const unsigned width = m->state[GUARD + 1];
+    const size_t least = least_area(end, width), of_other = least_area(end, width == 32 ? 16 : 32);
+    try_open(end, m, 16);
+    try_open(end, m, 32);
+    try_open(end, m, draw_width());
     try_areas(end, m, least, least);
     try_areas(end, m, least - 1, least);
     try_areas(end, m, least, least - 1);
+    try_areas(end, m, of_other, of_other);
     try_areas(end, m, 0, least);
     try_areas(end, m, least, 0);
     try_areas(end, m, 0, 0);
@@ -324,9 +376,9 @@ static void try_state(enum end end, struct memory *m) {
 
 /* The same at less cost, for very many states: some lengths, not all. */
 static void try_state_once(enum end end, struct memory *m) {
-    const size_t least = end == RECEIVER ? KUTA_RECEIVER_AREA : KUTA_SENDER_AREA;
+    const size_t least = least_area(end, m->state[GUARD + 1]);
     const size_t one = least - (below(16) == 0), other = least - (below(16) == 0), line = below(64) == 0 ? below(LINE + 1) : below(24);
-    if (below(16) == 0) try_open(end, m);
+    if (below(16) == 0) try_open(end, m, draw_width());
     if (end == RECEIVER) {
         try_out(RECEIVE, m, one, other, 1);
         try_out(READ_ON, m, one, other, line);
@@ -338,11 +390,6 @@ static void try_state_once(enum end end, struct memory *m) {
 }
 
 /* ---- Many states */
-
-static void fresh_state(enum end end, struct memory *m) {
-    if (end == RECEIVER) kuta_receiver_open(m->state + GUARD, KUTA_ZXE | KUTA_PRE);
-    else kuta_sender_open(m->state + GUARD, KUTA_ZXE | KUTA_PRE);
-}
 
 /* Octets as a line has them: many codes, flags, zeros. */
 static void draw_line(struct memory *m, size_t count) {
@@ -358,17 +405,21 @@ static void try_plain_states(enum end end, struct memory *m) {
     try_state(end, m);
     memset(m->state + GUARD, 0xFF, KUTA_STATE);
     try_state(end, m);
-    fresh_state(end, m);
-    try_state(end, m);
+}
+
+static void try_widths(enum end end, struct memory *m) {
+    unsigned width;
+    draw_octets(m->state + GUARD, KUTA_STATE);
+    for (width = 0; width < 256; width++) try_open(end, m, (uint8_t)width);
 }
 
 /* Each octet of an opened state, changed to each value. */
-static void try_changed_octets(enum end end, struct memory *m) {
+static void try_changed_octets(enum end end, struct memory *m, uint8_t width) {
     unsigned place, value;
     for (place = 0; place < KUTA_STATE; place++) {
         for (value = 0; value < 256; value++) {
             draw_octets(m->state + GUARD, KUTA_STATE);
-            fresh_state(end, m);
+            open_end(end, m, KUTA_ZXE | KUTA_PRE, width);
             m->state[GUARD + place] = (uint8_t)value;
             try_state(end, m);
         }
@@ -394,13 +445,16 @@ static void draw_block(uint8_t *left, uint8_t *zeros) {
 /* A receiver that may well stand; what it does not look at is anything. */
 static void draw_receiver(uint8_t *s) {
     const int in_frame = below(4) > 0;
+    const uint8_t width = draw_width();
+    const unsigned most = most_decoded(is_width(width) ? width : 32);
     draw_octets(s, KUTA_STATE);
     s[0] = 1;
+    s[1] = width;
     s[10] = (uint8_t)below(2);
     s[13] = (uint8_t)below(2);
-    put_number(s + 14, draw_count(MOST_DECODED));
+    put_number(s + 14, draw_count(most));
     memset(s + 20, 0, 6);
-    put_number(s + 11, in_frame ? draw_count(MOST_DECODED) : 0);
+    put_number(s + 11, in_frame ? draw_count(most) : 0);
     if (!in_frame) return;
     draw_block(s + 20, s + 21);
     s[22] = (uint8_t)below(3);
@@ -411,12 +465,15 @@ static void draw_receiver(uint8_t *s) {
 
 /* A sender that may well stand. */
 static void draw_sender(uint8_t *s) {
+    const uint8_t width = draw_width();
+    const unsigned longest = longest_frame(is_width(width) ? width : 32);
     draw_octets(s, KUTA_STATE);
     s[0] = 1;
+    s[1] = width;
     s[5] = (uint8_t)below(3);
-    put_number(s + 8, below(3) == 0 ? 0 : 4 + draw_count(LONGEST_FRAME - 4));
+    put_number(s + 8, below(3) == 0 ? 0 : 4 + draw_count(longest - 4));
     put_number(s + 10, below(4) == 0 ? number_at(s + 8) + 1 : draw_count(number_at(s + 8) + 1));
-    put_number(s + 12, below(2) ? 0 : 4 + draw_count(LONGEST_FRAME - 4));
+    put_number(s + 12, below(2) ? 0 : 4 + draw_count(longest - 4));
     put_number(s + 14, below(4) == 0 ? number_at(s + 12) + 1 : draw_count(number_at(s + 12) + 1));
     s[6] = (uint8_t)(s[5] != 1 && below(2));
     s[16] = s[17] = 0;
@@ -433,7 +490,10 @@ static void try_drawn_states(enum end end, struct memory *m, unsigned long count
         if (i % 4 == 0) draw_octets(state, KUTA_STATE);
         else if (end == RECEIVER) draw_receiver(state);
         else draw_sender(state);
-        if (i % 8 == 0) state[0] = 1;
+        if (i % 8 == 0) {
+            state[0] = 1;
+            state[1] = draw_width();
+        }
         if (i % 8 == 1) state[below(KUTA_STATE)] = (uint8_t)below(256);
         try_state_once(end, m);
     }
@@ -446,10 +506,17 @@ static uint8_t sent[2][KUTA_LARGEST_PACKET]; /* of each lane, the packet on its 
 static size_t sent_length[2];
 static unsigned long loaded, delivered;
 
+/* The areas are just as long as the end's width asks for. */
+static struct lengths lent(enum end end, const struct memory *m, size_t line) {
+    struct lengths n;
+    n.one = n.other = least_area(end, m->state[GUARD + 1]);
+    n.line = line;
+    return n;
+}
+
 static void load_a_packet(unsigned lane) {
     const size_t lengths[] = {2, 3, 2 + below(300), 2 + below(2047), 2048};
-    struct lengths n = {KUTA_SENDER_AREA, KUTA_SENDER_AREA, 0};
-    n.line = lengths[below(LENGTH(lengths))];
+    const struct lengths n = lent(SENDER, &sending, lengths[below(LENGTH(lengths))]);
     draw_line(&sending, n.line);
     if (try_call(lane == 0 ? LOAD_LOW : LOAD_HIGH, &sending, n).answer != (uint32_t)KUTA_DONE << 24) return;
     memcpy(sent[lane], sending.line + GUARD, n.line);
@@ -464,11 +531,10 @@ static int is_on_its_way(const uint8_t *packet, size_t length) {
 
 /* Reads all of the octets; answers how many packets of those on their way came out of them. */
 static unsigned read_all(const uint8_t *octets, size_t count) {
-    struct lengths n = {KUTA_RECEIVER_AREA, KUTA_RECEIVER_AREA, 0};
     unsigned packets = 0;
     while (count > 0) {
+        const struct lengths n = lent(RECEIVER, &receiving, count < 40 || below(2) ? count : 1 + below((unsigned)count));
         kuta_stretch stretch;
-        n.line = count < 40 || below(2) ? count : 1 + below((unsigned)count);
         memcpy(receiving.line + GUARD, octets, n.line);
         stretch = try_call(READ_ON, &receiving, n);
         if (stretch.octets == 0) break; /* which has failed */
@@ -484,20 +550,18 @@ static unsigned read_all(const uint8_t *octets, size_t count) {
 enum { STEPS_TO_EMPTY = 200 }; /* for what is loaded at last; much more than two packets need */
 
 /* Damage: one of so many stretches has an octet changed; 0 none. */
-static void run_session(uint8_t settings, unsigned steps, unsigned damage) {
+static void run_session(uint8_t settings, uint8_t width, unsigned steps, unsigned damage) {
     static const struct lengths none = {0, 0, 0};
-    struct lengths n = {KUTA_SENDER_AREA, KUTA_SENDER_AREA, 0};
     uint8_t octets[LINE];
     unsigned step;
     loaded = delivered = 0;
-    kuta_sender_open(sending.state + GUARD, settings);
-    kuta_receiver_open(receiving.state + GUARD, settings);
+    open_end(SENDER, &sending, settings, width);
+    open_end(RECEIVER, &receiving, settings, width);
     for (step = 0; step < steps + STEPS_TO_EMPTY; step++) {
         kuta_stretch stretch;
         if (step < steps && below(2)) load_a_packet(0);
         if (step < steps && below(3) == 0) load_a_packet(1);
-        n.line = below(4) == 0 ? below(LINE + 1) : below(200);
-        stretch = try_call(WRITE_ON, &sending, n);
+        stretch = try_call(WRITE_ON, &sending, lent(SENDER, &sending, below(4) == 0 ? below(LINE + 1) : below(200)));
         memcpy(octets, sending.line + GUARD, stretch.octets);
         if (damage > 0 && stretch.octets > 0 && below(damage) == 0) octets[below((unsigned)stretch.octets)] = (uint8_t)below(256);
         delivered += read_all(octets, stretch.octets);
@@ -505,38 +569,49 @@ static void run_session(uint8_t settings, unsigned steps, unsigned damage) {
     if (damage == 0) check(delivered == loaded && loaded > 0, "all that was loaded is delivered", "both ends", none);
 }
 
-/* ---- pppfcs16 */
+/* ---- pppfcs16 and pppfcs32 */
 
-static void try_check_sequence(struct memory *m) {
+static void try_check_sequences(struct memory *m) {
+    const uint8_t *const octets = m->line + GUARD;
     struct lengths n = {0, 0, 0};
     unsigned i;
-    for (i = 0; i < 65536; i++) check(pppfcs16((uint16_t)i, NULL, 0) == i, "no octets, no change", "pppfcs16", n);
+    for (i = 0; i < 65536; i++) {
+        const uint32_t start = draw();
+        check(pppfcs16((uint16_t)i, NULL, 0) == i, "no octets, no change", "pppfcs16", n);
+        check(pppfcs32(start, NULL, 0) == start, "no octets, no change", "pppfcs32", n);
+    }
     draw_octets(m->line + GUARD, LINE);
     before = *m;
     for (i = 0; i <= LINE; i++) {
-        const unsigned start = below(65536);
+        const uint32_t start = draw();
         n.line = i;
-        check(pppfcs16((uint16_t)start, m->line + GUARD, i) == register_over(start, m->line + GUARD, i), "as bit by bit", "pppfcs16", n);
+        check(pppfcs16((uint16_t)start, octets, i) == register_over(16, start & 0xFFFF, octets, i), "as bit by bit", "pppfcs16", n);
+        check(pppfcs32(start, octets, i) == register_over(32, start, octets, i), "as bit by bit", "pppfcs32", n);
     }
-    check(same(m, &before), "nothing is changed", "pppfcs16", n);
+    check(same(m, &before), "nothing is changed", "pppfcs16, pppfcs32", n);
 }
 
 static void try_end(enum end end, struct memory *m) {
     try_plain_states(end, m);
-    try_changed_octets(end, m);
-    try_drawn_states(end, m, 200000);
+    try_widths(end, m);
+    try_changed_octets(end, m, 16);
+    try_changed_octets(end, m, 32);
+    try_drawn_states(end, m, 300000);
 }
 
 int main(void) {
     static struct memory memory;
     uint8_t settings;
+    size_t i;
     draw_octets((uint8_t *)&memory, sizeof memory);
     try_end(RECEIVER, &memory);
     try_end(SENDER, &memory);
-    try_check_sequence(&memory);
+    try_check_sequences(&memory);
     for (settings = 0; settings < 4; settings++) {
-        run_session(settings, 5000, 0);
-        run_session(settings, 5000, 4);
+        for (i = 0; i < LENGTH(widths); i++) {
+            run_session(settings, widths[i], 5000, 0);
+            run_session(settings, widths[i], 5000, 4);
+        }
     }
     printf("bad input: %lu passed, %lu failed\n", passed, failed);
     return failed == 0 && fclose(stdout) == 0 ? 0 : 1;

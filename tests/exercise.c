@@ -96,6 +96,7 @@ static const struct field sender_fields[] = {
     {5, 1, 3},      /* lane on the line */
     {6, 1, 2},      /* suspended */
     {7, 1, 2},      /* cut due */
+    {1, 1, 256},    /* width */
 };
 
 static const struct field receiver_fields[] = {
@@ -109,6 +110,7 @@ static const struct field receiver_fields[] = {
     {23, 1, 2},               /* in a frame */
     {24, 1, 2},               /* resumed */
     {25, 1, 256},             /* remembered refusal */
+    {1, 1, 256},              /* width */
 };
 
 static void put_number(uint8_t *place, unsigned long number) {
@@ -138,12 +140,11 @@ static unsigned long field_of(const uint8_t *state, struct field field) {
     return *place == 0 ? 0 : number_at(place + 1) + 1;
 }
 
-/* What has no number here is written as an opening writes it: octet 0, the width and the limit, and zeros. */
+/* What has no number here is written as an opening writes it: octet 0 and the limit, and zeros. */
 static void hand_in(uint8_t *state, const struct field *fields, size_t count, const unsigned *numbers) {
     size_t i;
     memset(state, 0, KUTA_STATE);
     state[0] = 1;
-    state[1] = 16;
     put_number(state + 2, KUTA_LARGEST_PACKET);
     for (i = 0; i < count; i++) put_field(state, fields[i], numbers[i]);
 }
@@ -164,9 +165,13 @@ struct operands {
     size_t length;
 };
 
-static void open_sender(const struct operands *given) { print_opening(kuta_sender_open(sender, (uint8_t)given->numbers[0])); }
+static void open_sender(const struct operands *given) {
+    print_opening(kuta_sender_open(sender, (uint8_t)given->numbers[0], (uint8_t)given->numbers[1]));
+}
 
-static void open_receiver(const struct operands *given) { print_opening(kuta_receiver_open(receiver, (uint8_t)given->numbers[0])); }
+static void open_receiver(const struct operands *given) {
+    print_opening(kuta_receiver_open(receiver, (uint8_t)given->numbers[0], (uint8_t)given->numbers[1]));
+}
 
 static void load_low(const struct operands *given) {
     print_answer(kuta_load_low(sender, given->octets, given->length, low, areas[LOW].lent));
@@ -227,8 +232,8 @@ struct command {
 };
 
 static const struct command commands[] = {
-    {'o', "1", open_sender},
-    {'O', "1", open_receiver},
+    {'o', "11", open_sender},
+    {'O', "11", open_receiver},
     {'l', "n", load_low},
     {'h', "n", load_high},
     {'n', "2", next_octets},
@@ -236,8 +241,8 @@ static const struct command commands[] = {
     {'a', "2222", lend},
     {'A', "2", lend_out},
     {'f', "12n", fill},
-    {'s', "2222222222", hand_sender},
-    {'t', "2222222222", hand_receiver},
+    {'s', "22222222222", hand_sender},
+    {'t', "22222222222", hand_receiver},
     {'d', "", show_states},
     {'x', "122", show},
 };
@@ -306,8 +311,8 @@ int main(void) {
     int status = 0;
     setvbuf(stdin, input, _IOFBF, sizeof input);
     setvbuf(stdout, output, _IOFBF, sizeof output);
-    kuta_sender_open(sender, 0);
-    kuta_receiver_open(receiver, 0);
+    kuta_sender_open(sender, 0, 16);
+    kuta_receiver_open(receiver, 0, 16);
     while (carry_out_next() && !ferror(stdout)) {
     }
     if (ferror(stdin)) status = fault("standard input: cannot be read");

@@ -3,11 +3,12 @@
 
     python3 tests/vectors.py | diff - crates/vectors/stdout
 
-The check sequence is Python's own CRC (binascii.crc_hqx) with its bits reversed; the code table and the sender's choice are written
+The check sequence is Python's own: of 16 bits binascii.crc_hqx with its bits reversed, of 32 bits zlib.crc32; the code table and the sender's choice are written
 from the COBS draft, sections 3 to 3.3, with document 01's rule for which code is chosen; the two ends from docs/READING.md. What is asked, and
 how a line is worded, is the program's; every answer is computed here.
 """
 import binascii
+import zlib
 
 
 def shown(octets):
@@ -30,8 +31,19 @@ def register(octets, start=0xFFFF):
     return reversed_bits(binascii.crc_hqx(flipped, reversed_bits(start, 16)), 16)
 
 
-def fcs(packet):
+def register32(octets, start=0xFFFFFFFF):
+    """zlib's value is the complement of the register, which it is also handed complemented."""
+    return zlib.crc32(bytes(octets), start ^ 0xFFFFFFFF) ^ 0xFFFFFFFF
+
+
+def fcs(packet, width=16):
+    if width == 32:
+        return (register32(packet) ^ 0xFFFFFFFF).to_bytes(4, "little")
     return (register(packet) ^ 0xFFFF).to_bytes(2, "little")
+
+
+def good(frame, width):
+    return register32(frame) == 0xDEBB20E3 if width == 32 else register(frame) == 0xF0B8
 
 
 def high_first(value):
@@ -47,6 +59,15 @@ def check_sequence():
         line("register over", frame, high_first(register(frame)))
         line("good", frame, [register(frame) == 0xF0B8])
     line("good", b"1111", [register(b"1111") == 0xF0B8])
+    for place in (0, 1, 15, 20, 102, 128, 153, 161, 169, 229, 237, 255):
+        line(f"32 bits, entry {place}", b"", register32(bytes([place]), 0).to_bytes(4, "big"))
+    for packet in (b"123456789", b"\0\0", b"~~", b""):
+        frame = packet + fcs(packet, 32)
+        line("32 bits, FCS of", packet, fcs(packet, 32))
+        line("32 bits, register over", frame, register32(frame).to_bytes(4, "big"))
+        line("32 bits, good", frame, [good(frame, 32)])
+    line("32 bits, register over", b"123456789", register32(b"123456789").to_bytes(4, "big"))
+    line("32 bits, good", b"111111", [good(b"111111", 32)])
 
 
 # ---- code blocks
@@ -117,8 +138,10 @@ def code_blocks():
 # ---- the two ends
 
 
-def sent(packet, settings, loads=1):
+def sent(packet, settings, loads=1, width=16):
     """A fresh sender, loaded so often, until it is idle; nothing interrupts it."""
+    if width not in (16, 32):
+        return b"R\3"
     answers = b""
     held = None
     for _ in range(loads):
@@ -131,7 +154,7 @@ def sent(packet, settings, loads=1):
             answers += b"D"
     if held is None:
         return answers
-    rest = bytes(held) + fcs(held)
+    rest = bytes(held) + fcs(held, width)
     while rest is not None:
         code, octets, zeros = choice(rest, settings & 1)
         answers += (bytes([code]) + rest[:octets]).replace(b"\x7e", b"\0")
@@ -140,9 +163,13 @@ def sent(packet, settings, loads=1):
     return answers + b"\x7e"
 
 
-def reported(line_octets, settings, area=2051, left=0):
+def reported(line_octets, settings, area=None, left=0, width=16):
     """A fresh receiver over the octets, frame by frame; the frame's octets are decoded as a whole."""
-    if area < 2051:
+    if width not in (16, 32):
+        return b"R\3"
+    tail = width // 8
+    most = 2048 + tail + 1
+    if area is not None and area < most:
         return b"R\2" * len(line_octets)
     if left > 207:
         return b"R\3" * len(line_octets)
@@ -173,11 +200,11 @@ def reported(line_octets, settings, area=2051, left=0):
             open_block = len(data) < row[1]
             octets = octets[1 + row[1] :]
             decoded += bytes(data)
-            if len(decoded) > 2051:
+            if len(decoded) > most:
                 refusal = 10
             elif not open_block:
                 decoded += bytes(row[2])
-                refusal = 10 if len(decoded) > 2051 else None
+                refusal = 10 if len(decoded) > most else None
         if refusal is None:
             if last is None:
                 refusal = 9
@@ -189,12 +216,12 @@ def reported(line_octets, settings, area=2051, left=0):
                 refusal = 11
             elif last == 0xD0:
                 refusal = 12
-            elif len(decoded) - 1 < 4:
+            elif len(decoded) - 1 < 2 + tail:
                 refusal = 13
-            elif register(decoded[:-1]) != 0xF0B8:
+            elif not good(decoded[:-1], width):
                 refusal = 14
         if refusal is None:
-            packet = decoded[:-3]
+            packet = decoded[: -1 - tail]
             answers += b"P" + bytes([work, len(packet)]) + packet
         else:
             answers += b"R" + bytes([refusal])
@@ -220,6 +247,22 @@ def two_ends():
         line(f"{once[octet]:02X} {times} times, reported of", once, reported(repeated, 3))
     line("second area of 2050 octets, reported of", b"\x7e", reported(b"\x7e", 3, area=2050))
     line("208 data octets left, reported of", b"\x7e", reported(b"\x7e", 3, left=208))
+    for packet, settings, words in (
+        (b"123456789", 3, ""),
+        (b"\0\0", 3, ""),
+        (b"\0\0", 0, "settings 00, high lane, "),
+        (b"~~", 3, ""),
+        (b"1", 3, ""),
+    ):
+        line(f"32 bits, {words}sent of", packet, sent(packet, settings, width=32))
+    frames = ["0E 31 32 33 34 35 36 37 38 39 26 39 F4 CB 7E", "0C 31 32 33 34 35 36 37 38 39 6E 90 7E"]
+    for octets in map(bytes.fromhex, [*frames, "05 31 31 31 31 7E", "06 31 31 31 31 31 7E", "07 31 31 31 31 31 31 7E"]):
+        line("32 bits, reported of", octets, reported(octets, 3, width=32))
+    for octets in map(bytes.fromhex, ("DF DD 7E", "DF DE 7E")):
+        line("32 bits, DF 136 times, reported of", octets, reported(octets[:1] * 135 + octets, 3, width=32))
+    line("32 bits, second area of 2052 octets, reported of", b"\x7e", reported(b"\x7e", 3, area=2052, width=32))
+    line("24 bits, sent of", b"1", sent(b"1", 3, width=24))
+    line("24 bits, reported of", b"\x7e", reported(b"\x7e", 3, width=24))
 
 
 check_sequence()

@@ -3,8 +3,9 @@
  *
  *     cc -o lossy lossy.c -lkutarehopa && ./lossy 10
  *
- * RATE, here 10, is how many of 10,000 octets the line damages; the same rate gives the same tally everywhere. Exit status: 0; 1 where a
- * line without damage did not deliver everything, or the tally cannot be written; 2 where the command is called wrongly. */
+ * RATE, here 10, is how many of 10,000 octets the line damages; the same rate gives the same tally everywhere. `./lossy 10 32` is the same
+ * with a check sequence of 32 bits in place of 16. Exit status: 0; 1 where a line without damage did not deliver everything, or the tally
+ * cannot be written; 2 where the command is called wrongly. */
 #include <stdio.h>
 #include <stdlib.h>
 
@@ -20,9 +21,9 @@ static const size_t packet_length[LANES] = {KUTA_LARGEST_PACKET, 24};
 static const unsigned packets_to_send[LANES] = {40, 200};
 static const char *const lane_name[LANES] = {"low", "high"};
 
-/* The two ends. Each has its state and its areas, and sees nothing of the other but the line. */
-static uint8_t sender[KUTA_STATE], low[KUTA_SENDER_AREA], high[KUTA_SENDER_AREA];
-static uint8_t receiver[KUTA_STATE], first[KUTA_RECEIVER_AREA], second[KUTA_RECEIVER_AREA];
+/* The two ends. Each has its state and its areas, long enough for either width, and sees nothing of the other but the line. */
+static uint8_t sender[KUTA_STATE], low[KUTA_SENDER_AREA_32], high[KUTA_SENDER_AREA_32];
+static uint8_t receiver[KUTA_STATE], first[KUTA_RECEIVER_AREA_32], second[KUTA_RECEIVER_AREA_32];
 
 static struct {
     unsigned loaded[LANES], unaltered[LANES];
@@ -181,21 +182,26 @@ static int all_delivered(void) {
            tally.given_up == 0 && frames_refused() == 0;
 }
 
-/* A rate from 0 to 10,000, or -1. */
-static long rate_of(const char *text) {
+/* A number from 0 to `most`, or -1. */
+static long number_of(const char *text, long most) {
     char *end;
-    const long rate = strtol(text, &end, 10);
-    return *text < '0' || *text > '9' || *end != '\0' || rate > WHOLE ? -1 : rate;
+    const long number = strtol(text, &end, 10);
+    return *text < '0' || *text > '9' || *end != '\0' || number > most ? -1 : number;
+}
+
+/* Whether both ends take the width; each answers for itself. */
+static int open_both(uint8_t width) {
+    return kuta_kind(kuta_sender_open(sender, SETTINGS, width)) == KUTA_DONE &&
+           kuta_kind(kuta_receiver_open(receiver, SETTINGS, width)) == KUTA_DONE;
 }
 
 int main(int count, char **arguments) {
-    const long rate = count == 2 ? rate_of(arguments[1]) : -1;
-    if (rate < 0) {
-        fprintf(stderr, "usage: lossy RATE\nRATE: how many of %d octets the line damages, 0 to %d\n", WHOLE, WHOLE);
+    const long rate = count == 2 || count == 3 ? number_of(arguments[1], WHOLE) : -1;
+    const long width = count == 3 ? number_of(arguments[2], UINT8_MAX) : 16;
+    if (rate < 0 || width < 0 || !open_both((uint8_t)width)) {
+        fprintf(stderr, "usage: lossy RATE [16|32]\nRATE: how many of %d octets the line damages, 0 to %d\n", WHOLE, WHOLE);
         return 2;
     }
-    kuta_sender_open(sender, SETTINGS);
-    kuta_receiver_open(receiver, SETTINGS);
     run((unsigned)rate);
     print_tally();
     if (fclose(stdout) != 0) {

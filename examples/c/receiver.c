@@ -6,7 +6,8 @@
  *
  *     cc -o receiver receiver.c -lkutarehopa && ./receiver < CAPTURE
  *
- * Exit status: 0 at the end of input, 1 where something cannot be read or written, 2 where it is called wrongly. */
+ * `./receiver 32` is for a line with a check sequence of 32 bits in place of 16. Exit status: 0 at the end of input, 1 where something
+ * cannot be read or written, 2 where it is called wrongly. */
 #define _POSIX_C_SOURCE 200809L
 #include <errno.h>
 #include <stdio.h>
@@ -17,10 +18,10 @@
 
 enum { SETTINGS = KUTA_ZXE | KUTA_PRE }; /* what both ends of this link agreed on */
 
-/* All that a receiver needs: its state, and two areas that are nobody else's from the opening on. */
+/* All that a receiver needs: its state, and two areas that are nobody else's from the opening on. They are long enough for either width. */
 struct receiver {
     uint8_t state[KUTA_STATE];
-    uint8_t first[KUTA_RECEIVER_AREA], second[KUTA_RECEIVER_AREA];
+    uint8_t first[KUTA_RECEIVER_AREA_32], second[KUTA_RECEIVER_AREA_32];
 };
 
 static void print_packet(const uint8_t *packet, unsigned length) {
@@ -74,6 +75,9 @@ static ssize_t read_some(int descriptor, uint8_t *octets, size_t room) {
     return count;
 }
 
+/* The width of the check sequence, which both ends agreed on too; 0 of another word, and no opening takes that. */
+static uint8_t width_of(const char *word) { return strcmp(word, "16") == 0 ? 16 : strcmp(word, "32") == 0 ? 32 : 0; }
+
 static int fault(const char *what) {
     fprintf(stderr, "receiver: %s: %s\n", what, strerror(errno));
     return 1;
@@ -82,12 +86,12 @@ static int fault(const char *what) {
 int main(int count_of_words, char **words) {
     static struct receiver receiver;
     static uint8_t octets[4096]; /* any length will do: a frame may lie across two reads, and a read may have many frames */
+    const uint8_t width = width_of(count_of_words > 1 ? words[1] : "16");
     ssize_t count;
-    if (count_of_words > 1) {
-        fprintf(stderr, "usage: %s < CAPTURE\n", words[0]);
+    if (count_of_words > 2 || kuta_kind(kuta_receiver_open(receiver.state, SETTINGS, width)) != KUTA_DONE) {
+        fprintf(stderr, "usage: %s [16|32] < CAPTURE\n", words[0]);
         return 2;
     }
-    kuta_receiver_open(receiver.state, SETTINGS);
     while ((count = read_some(STDIN_FILENO, octets, sizeof octets)) > 0) {
         if (!take(&receiver, octets, (size_t)count)) return 1;
         if (fflush(stdout) != 0 || ferror(stdout)) return fault("standard output: cannot be written"); /* before the wait for more */

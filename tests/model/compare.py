@@ -6,8 +6,9 @@
 DIR/capture, DIR/count and DIR/exercise read standard input and write standard output; the output of
 each must be that of `model capture|count|exercise`, octet for octet, on random inputs made here.
 Exits 0 when nothing differs, 1 at the first difference (input and both outputs are saved) or when a
-run of full size did not see every answer of every call and every area shown inside, to its end and
-beyond it; 2 when a program is missing. All three programs must end with status 0, also after `E`.
+run of full size did not see every answer of every call, at 16 bits and at 32, what a wrong width is
+answered, and every area shown inside, to its end and beyond it; 2 when a program is missing. All
+three programs must end with status 0, also after `E`.
 """
 import argparse
 import collections
@@ -92,6 +93,8 @@ def build_model(folder):
 
 COMMANDS = b"oOlhnraAfstdx"
 WHOLE_AREAS = (20480, 20480, 20480, 20480, 40960)  # low, high, first, second, out
+WIDTHS = (16, 32)
+LENT = {16: (2050, 2050, 2051, 2051), 32: (2052, 2052, 2053, 2053)}  # exactly long enough; 16: lent at the start
 
 
 def number(n):
@@ -100,6 +103,14 @@ def number(n):
 
 def octets(data):
     return number(len(data)) + data
+
+
+def open_sender(settings, width=16):
+    return b"o" + bytes((settings, width))
+
+
+def open_receiver(settings, width=16):
+    return b"O" + bytes((settings, width))
 
 
 def load_low(packet):
@@ -145,14 +156,15 @@ def show(area, at, count):
 SHOW_STATES = b"d"
 
 
-def fcs(packet):
+def fcs(packet, width=16):
     """RFC 1662's FCS, bit by bit, low octet first."""
-    register = 0xFFFF
+    polynomial = {16: 0x8408, 32: 0xEDB88320}[width]
+    register = start = 2 ** width - 1
     for octet in packet:
         register ^= octet
         for _ in range(8):
-            register = (register >> 1) ^ (0x8408 if register & 1 else 0)
-    return number(register ^ 0xFFFF)
+            register = (register >> 1) ^ (polynomial if register & 1 else 0)
+    return (register ^ start).to_bytes(width // 8, "little")
 
 
 # ------------------------------------------------------------------------------------------------
@@ -218,9 +230,9 @@ def packet(rng, length=None):
 # Captures: what the model's sender sends, then damaged
 # ------------------------------------------------------------------------------------------------
 
-def sound_script(rng, least, urgent):
+def sound_script(rng, least, urgent, width):
     """A script whose sender sends at least so many octets (about)."""
-    parts, sent = [b"o" + bytes((rng.choice((3, 3, 3, 3, 2, 0xFF, 1, 0)),))], 0
+    parts, sent = [lend(LENT[width]), open_sender(rng.choice((3, 3, 3, 3, 2, 0xFF, 1, 0)), width)], 0
     while sent < least:
         low = packet(rng)
         parts.append(load_low(low))
@@ -247,11 +259,11 @@ def sent_octets(out):
     return bytes.fromhex(digits.decode())
 
 
-def sound_line(programs, rng, least, urgent=0.5):
+def sound_line(programs, rng, least, urgent=0.5, width=16):
     """Undamaged octets of a line, whole frames."""
     pieces, have = [], 0
     while have < least:
-        piece = sent_octets(programs.of_model("exercise", sound_script(rng, min(least - have, 400_000), urgent)))
+        piece = sent_octets(programs.of_model("exercise", sound_script(rng, min(least - have, 400_000), urgent, width)))
         pieces.append(piece)
         have += len(piece)
     return b"".join(pieces)
@@ -356,18 +368,21 @@ def insert_frame(rng, data):
         b"\xff\x03\xc0\x21", b"\xff", b"\xff" + some, b"\xd1" + some, b"\xd1", b"\xd1\xff", b"\xd1\xd1", b"\xd1\xd2",
         b"\xd2" + some, b"\x01", b"\xd3", b"\x02", b"\x05", b"\xe0", b"\xd3" + some,
         b"\x05" + b"1111", b"\xd0" + b"1" * 207, b"\xd0" + b"1" * 206, b"\xd0" + b"1" * 207 + b"\x01",
+        b"\x06" + b"11111", b"\x07" + b"111111",
         b"\xd1\x01", b"\xd1\xd0" + b"1" * 207, b"\xcf" + b"1" * 206,
     ))
     return insert(rng, data, FLAG + frame + FLAG)
 
 
 def insert_long(rng, data):
-    """A frame that decodes to about 2,051 octets, or far beyond."""
+    """A frame that decodes to about 2,051 octets or 2,053, or far beyond."""
     runs = rng.randint(134, 138)
     frame = rng.choice((
         b"\xdf" * runs + bytes((rng.randint(0xD3, 0xDF),)),
         b"\xdf" * 136 + rng.choice((b"\xdb", b"\xdc", b"\xda\x01", b"\xda\xe0", b"\xd9\x02\x31", b"\xd9\xe1\x31",
                                     b"\xd9\x03\x31\x32", b"\xdb\x31", b"\xdb\x01", b"\xdb\x02\x31", b"\xda\x02\x31")),
+        b"\xdf" * 136 + rng.choice((b"\xdd", b"\xde", b"\xdc\x01", b"\xdc\xe0", b"\xdb\xe0", b"\xdb\xe1\x31",
+                                    b"\xdb\x03\x31\x32", b"\xdd\x31", b"\xdd\x01", b"\xdd\x02\x31", b"\xdc\x02\x31")),
         b"\xdf" * rng.randint(137, 3000),
         (b"\xd0" + b"1" * 207) * rng.choice((9, 10, 11)) + b"\x01",
         (b"\xcf" + b"1" * 206) * 9 + bytes((rng.randint(0xB8, 0xC4),)) + b"2" * rng.randint(180, 200),
@@ -428,6 +443,7 @@ def captures(programs, rng, total):
         yield f"short codes {n}", from_set(rng, CODES + FLAG * 3 + b"\x31\x05", rng.randint(0, 80))
     yield "sound", pool
     yield "sound, cut in a frame", pool[:-rng.randint(2, 300)]
+    yield "sound, but of 32 bits", sound_line(programs, rng, total // 40, width=32)
     yield "codes", from_set(rng, CODES + FLAG + b"\x31\x05\x06", total // 20)
     yield "noise", rng.randbytes(total // 20)
     yield "noise, few flags", rng.randbytes(total // 40).replace(FLAG, b"\x00")
@@ -469,7 +485,9 @@ def compare_captures(programs, rng, total, seen):
 # Exercise scripts
 # ------------------------------------------------------------------------------------------------
 
-EDGES = (0, 1, 2, 3, 4, 5, 6, 10, 11, 206, 207, 208, 255, 256, 257, 258, 2048, 2049, 2050, 2051, 2052, 2053, 65535)
+EDGES = (0, 1, 2, 3, 4, 5, 6, 7, 8, 10, 11, 206, 207, 208, 255, 256, 257, 258, *range(2048, 2056), 65535)
+WRONG_WIDTHS = (0, 1, 8, 15, 17, 24, 31, 33, 48, 64, 255)
+WIDTH = 10  # its place among the numbers of a state
 PLACES = (0, 1, 2040, 2051, 4095, 4096, 20470, 20478, 20479, 20480, 20481, 40950, 40958, 40959, 40960, 40961, 65534,
           65535)
 
@@ -488,16 +506,31 @@ def settings(rng):
     return rng.choice((0, 1, 2, 3, 3, 3, 3, 0xFC, 0xFD, 0xFE, 0xFF, rng.randrange(256)))
 
 
-def lane_numbers(rng):
-    length = rng.choice((0, 0, 4, 5, 30, 33, 209, 210, 2049, 2050, rng.randint(4, 2050)))
+def wrong_width(rng):
+    return rng.choice((*WRONG_WIDTHS, rng.choice([w for w in range(256) if w not in WIDTHS])))
+
+
+def good_width(rng):
+    return rng.choice((16, 32, 32))
+
+
+def width_number(rng):
+    """A number for the width of a state, taken by its remainder by 256."""
+    return rng.choice((*WIDTHS, wrong_width(rng), wrong_width(rng))) + 256 * rng.choice((0, 0, 0, 1, 255))
+
+
+def lane_numbers(rng, width):
+    least, most = 2 + width // 8, 2048 + width // 8
+    length = rng.choice((0, 0, least, least + 1, 30, 33, 209, 210, most - 1, most, rng.randint(least, most)))
     if length == 0:
         return 0, rng.choice((0, 0, 0, 1))
     return length, rng.choice((0, 0, 1, length - 1, length, length + 1, rng.randint(0, length + 1)))
 
 
 def sender_state(rng):
-    """The ten numbers of a sender state in bounds."""
-    low, high = lane_numbers(rng), lane_numbers(rng)
+    """The eleven numbers of a sender state in bounds."""
+    width = good_width(rng)
+    low, high = lane_numbers(rng, width), lane_numbers(rng, width)
     line = rng.choice([0] + [1] * 2 * (low[0] > 0) + [2] * 2 * (high[0] > 0))
     left = zeros = 0
     if line:
@@ -507,16 +540,18 @@ def sender_state(rng):
         zeros = min(room - left, rng.choice((0, 1, 2))) if left else 0
     suspended = int(low[0] > 0 and line != 1 and rng.random() < 0.5)
     cut_due = int(line == 1 and left == 0 and rng.random() < 0.3)
-    return [settings(rng), *low, *high, left, zeros, line, suspended, cut_due]
+    return [settings(rng), *low, *high, left, zeros, line, suspended, cut_due, width]
 
 
 def receiver_state(rng):
-    """The ten numbers of a receiver state in bounds."""
-    held = rng.choice((0, 0, 1, 2, 6, 2050, 2051, 2052, rng.randint(0, 2052)))
+    """The eleven numbers of a receiver state in bounds."""
+    width = good_width(rng)
+    most = 2049 + width // 8
+    held = rng.choice((0, 0, 1, 2, 6, most - 1, most, most + 1, rng.randint(0, most + 1)))
     turn = rng.randrange(2)
     if rng.random() < 0.25:
-        return [settings(rng), turn, 0, held, 0, 0, 0, 0, 0, 0]
-    decoded = rng.choice((0, 0, 0, 1, 2, 4, 5, 6, 2043, 2048, 2049, 2050, 2051, rng.randint(0, 2051)))
+        return [settings(rng), turn, 0, held, 0, 0, 0, 0, 0, 0, width]
+    decoded = rng.choice((0, 0, 0, 1, 2, 4, 5, 6, 7, most - 8, *range(most - 3, most + 1), rng.randint(0, most)))
     left = rng.choice((0, 0, 0, 0, 1, 1, 2, 206, 207, rng.randint(0, 207)))
     zeros, last, resumed = rng.randrange(3), rng.randrange(3), rng.randrange(2)
     refusal = rng.choice((0, 0, 0, 0, rng.randint(5, 10)))
@@ -524,16 +559,33 @@ def receiver_state(rng):
         resumed = 1
     if refusal == 0 and last == 2 and left == 0 and decoded == 0:
         decoded = 1
-    return [settings(rng), turn, decoded, held, left, zeros, last, 1, resumed, refusal]
+    return [settings(rng), turn, decoded, held, left, zeros, last, 1, resumed, refusal, width]
 
 
 def just_beyond(rng):
     """A sender state beyond one limit alone, where a single number seldom comes to it by chance."""
-    line = rng.choice((1, 2))
+    line, width = rng.choice((1, 2)), good_width(rng)
     lane, other = (rng.randint(300, 2050), rng.randint(0, 90)), (0, 0)
     low, high = (lane, other) if line == 1 else (other, lane)
     left, zeros = rng.choice(((208, 0), (208, 2), (209, 1), (207, 3), (1, 3), (0, 1), (0, 2)))
-    return [settings(rng), *low, *high, left, zeros, line, 0, 0]
+    return [settings(rng), *low, *high, left, zeros, line, 0, 0, width]
+
+
+def sender_by_width(rng):
+    """A sender whose lanes are in bounds at one width, at both or at none."""
+    def lane():
+        length = rng.choice((0, *range(3, 8), *range(2049, 2054)))
+        return length, rng.choice((0, length, length + 1, length + 2))
+
+    return [settings(rng), *lane(), *rng.choice((lane(), (0, 0))), 0, 0, rng.randrange(3), 0, 0, good_width(rng)]
+
+
+def receiver_by_width(rng):
+    """A receiver whose counts are in bounds at one width, at both or at none; 10 and 13 are near."""
+    decoded = rng.choice((*range(3, 8), *range(2049, 2056)))
+    held = rng.choice((0, 0, 0, *range(2051, 2057)))
+    left, zeros = rng.choice(((0, 0), (0, 0), (0, 0), (1, 0), (1, 1), (1, 2), (2, 1)))
+    return [settings(rng), rng.randrange(2), decoded, held, left, zeros, 2, 1, rng.randrange(2), 0, good_width(rng)]
 
 
 def disturbed(rng, state):
@@ -542,17 +594,18 @@ def disturbed(rng, state):
         return state
     state = list(state)
     for _ in range(rng.choice((1, 1, 1, 2, 4))):
-        at = rng.randrange(10)
-        state[at] = edge(rng, state[at])
+        at = rng.randrange(11)
+        state[at] = width_number(rng) if at == WIDTH else edge(rng, state[at])
     return state
 
 
 def area_lengths(rng):
-    if rng.random() < 0.5:
-        return [2050, 2050, 2051, 2051]
-    lengths = [rng.choice((least, 4096, 20480, rng.randint(least, 20480))) for least in (2050, 2050, 2051, 2051)]
+    kind = rng.random()
+    if kind < 0.6:
+        return list(LENT[16 if kind < 0.15 else 32])
+    lengths = [rng.choice((least, 4096, 20480, rng.randint(least, 20480))) for least in LENT[32]]
     for _ in range(rng.choice((0, 1, 1, 4))):
-        lengths[rng.randrange(4)] = rng.choice((2049, 2050, 2050, 2051, 0, 1, 20479, 20480, 20481, 40960, 65535))
+        lengths[rng.randrange(4)] = rng.choice((*range(2049, 2055), 0, 1, 20479, 20480, 20481, 40960, 65535))
     return lengths
 
 
@@ -569,7 +622,7 @@ def area_number(rng):
 
 
 def area_octets(rng):
-    return packet(rng, rng.choice((4, 40, 300, 2051, 2051)))
+    return packet(rng, rng.choice((4, 40, 300, 2051, 2053)))
 
 
 def line_octets(rng):
@@ -582,9 +635,10 @@ def line_octets(rng):
     if kind < 0.7:
         return FLAG
     if kind < 0.8:
-        return b"\xd1" * rng.randrange(2) + bytes((rng.randint(1, 6),)) + b"1111" + FLAG * rng.randrange(2)
+        code, data = bytes((rng.randint(1, 8),)), b"1" * rng.randint(4, 6)
+        return b"\xd1" * rng.randrange(2) + code + data + FLAG * rng.randrange(2)
     if kind < 0.85:
-        return b"\xdf" * rng.randint(130, 138) + FLAG
+        return b"\xdf" * rng.choice((136, rng.randint(130, 138))) + bytes((rng.randint(0xDA, 0xDF),)) + FLAG
     if kind < 0.9:
         return b"\xd0" + b"1" * rng.randint(204, 208) + FLAG * rng.randrange(2)
     return zero_free(rng, rng.randint(1, 260)) + FLAG
@@ -597,30 +651,56 @@ def octets_shown(area, at, count):
 
 
 class Script:
-    """A script and what each of its commands is, so that its output can be told apart."""
+    """A script and what each of its commands is, so that its output can be told apart. Of both ends it knows the width,
+    and of the areas how much is lent, so that an answer can be counted by these."""
 
     def __init__(self):
         self.parts = []
         self.kinds = []
+        self.widths = {"sender": 16, "receiver": 16}
+        self.lengths = LENT[16]
 
-    def add(self, command, kind=None, calls=0, shown=None):
+    def add(self, command, kind=None, calls=0, about=None):
         self.parts.append(command)
-        self.kinds.append((kind, calls, shown))
+        self.kinds.append((kind, calls, about))
 
     def octets(self):
         return b"".join(self.parts)
 
+    def at(self, end, places):
+        """Under what an answer is counted: the width, and the areas of these places where they matter to it."""
+        width, shortest = self.widths[end], min(self.lengths[n] for n in places)
+        least = LENT[16][places[0]]
+        if width not in WIDTHS:
+            return "wrong width" if shortest >= least else "wrong width, short area"
+        return "32 bits, areas for 16" if width == 32 and least <= shortest < least + 2 else f"{width} bits"
+
+    def open(self, end, settings, width):
+        """A refused opening leaves the end as it was."""
+        if width in WIDTHS:
+            self.widths[end] = width
+        command = open_sender if end == "sender" else open_receiver
+        self.add(command(settings, width), f"open {end}", 1, f"{width} bits" if width in WIDTHS else "wrong width")
+
+    def hand(self, end, numbers):
+        self.widths[end] = numbers[WIDTH] % 256
+        self.add((hand_sender if end == "sender" else hand_receiver)(numbers))
+
+    def lend(self, lengths):
+        self.lengths = lengths
+        self.add(lend(lengths))
+
     def load(self, lane, data):
-        self.add(load_high(data) if lane else load_low(data), "load", 1)
+        self.add(load_high(data) if lane else load_low(data), "load", 1, self.at("sender", (lane,)))
 
     def next(self, count):
-        self.add(next_octets(count), "next octet", count)
+        self.add(next_octets(count), "next octet", count, self.at("sender", (0, 1)))
 
     def states(self):
         self.add(SHOW_STATES, "states")
 
     def show(self, area, at, count):
-        self.add(show(area, at, count), "show", shown=(area, at, count))
+        self.add(show(area, at, count), "show", about=(area, at, count))
 
     def show_all(self):
         for area in range(len(WHOLE_AREAS)):
@@ -628,7 +708,7 @@ class Script:
 
     def receive(self, data):
         """Always followed by both states, so that its lines end at an `S`."""
-        self.add(receive(data), "receiver", len(data))
+        self.add(receive(data), "receiver", len(data), self.at("receiver", (2, 3)))
         self.states()
 
 
@@ -666,8 +746,10 @@ def add_sends(rng, script):
 
 
 def add_sender_state(rng, script):
-    state = just_beyond(rng) if rng.random() < 0.05 else disturbed(rng, sender_state(rng))
-    script.add(hand_sender(state))
+    kind = rng.random()
+    state = (just_beyond(rng) if kind < 0.05 else sender_by_width(rng) if kind < 0.15 else
+             disturbed(rng, sender_state(rng)))
+    script.hand("sender", state)
     if rng.random() < 0.3:
         script.add(fill(rng.randrange(2), rng.choice((0, 0, 0, 3, 2040)), area_octets(rng)))
     if rng.random() < 0.3:
@@ -676,8 +758,8 @@ def add_sender_state(rng, script):
 
 
 def add_receiver_state(rng, script):
-    state = disturbed(rng, receiver_state(rng))
-    script.add(hand_receiver(state))
+    state = receiver_by_width(rng) if rng.random() < 0.2 else disturbed(rng, receiver_state(rng))
+    script.hand("receiver", state)
     if rng.random() < 0.15:
         script.add(fill(2 + rng.randrange(2), rng.choice((0, 0, 2040)), area_octets(rng)))
     for _ in range(rng.choice((1, 1, 2, 4))):
@@ -686,17 +768,20 @@ def add_receiver_state(rng, script):
 
 
 def add_decoded_frame(rng, script):
-    """A state handed in with a whole frame, good or nearly, decoded in one of the areas."""
-    frame = packet(rng, rng.choice((0, 1, 2, 3, 30, 2047, 2048)))
-    frame += fcs(frame) + b"\0"
+    """A state handed in with a whole frame, good or nearly, decoded in one of the areas; seldom a frame of the other
+    width."""
+    width = good_width(rng)
+    frame = packet(rng, rng.choice((0, 1, 2, 3, 4, 30, 2047, 2048)))
+    frame += fcs(frame, 48 - width if rng.random() < 0.15 else width) + b"\0"
     if rng.random() < 0.3:
         frame = flip_bits(rng, frame)
     turn = rng.randrange(2)
     script.add(fill(2 + turn, 0, frame))
-    state = [settings(rng), turn, len(frame), rng.choice((0, 0, 1, 6, 2052)), 0, 0, 2, 1, rng.randrange(2), 0]
+    held = rng.choice((0, 0, 1, 6, 2052, 2054))
+    state = [settings(rng), turn, len(frame), held, 0, 0, 2, 1, rng.randrange(2), 0, width]
     if rng.random() < 0.3:
         state = disturbed(rng, state)
-    script.add(hand_receiver(state))
+    script.hand("receiver", state)
     script.receive(FLAG)
     script.receive(rng.choice((FLAG, b"\xd1\x02\x31\x7e", b"\x05\x31\x7e")))
     show_some(rng, script, 2 + turn, len(frame))
@@ -704,24 +789,31 @@ def add_decoded_frame(rng, script):
 
 def add_held_frame(rng, script):
     """A state handed in with the beginning of a good frame held; the rest arrives after D1."""
+    width = good_width(rng)
     whole = zero_free(rng, rng.choice((2, 9, 100)))
-    whole += fcs(whole)
+    whole += fcs(whole, width)
     if 0 in whole:
         return
     cut, turn = rng.randint(0, len(whole)), rng.randrange(2)
     script.add(fill(3 - turn, 0, whole[:cut]))
-    script.add(hand_receiver([rng.choice((2, 3, 3, 1)), turn, 0, cut + 1, 0, 0, 0, 0, 0, 0]))
+    script.hand("receiver", [rng.choice((2, 3, 3, 1)), turn, 0, cut + 1, 0, 0, 0, 0, 0, 0, width])
     rest = whole[cut:]
     script.receive(b"\xd1" + bytes((len(rest) + 1,)).replace(FLAG, b"\0") + rest.replace(FLAG, b"\0") + FLAG)
     show_some(rng, script, 3 - turn, cut)
 
 
-def add_line(rng, script, pool):
+def opening_width(rng, width):
+    """This width mostly; the other one, or a wrong one."""
+    return rng.choice((width,) * 8 + (48 - width, wrong_width(rng)))
+
+
+def add_line(rng, script, pools):
     """A stretch of a line, sound or damaged, received from fresh or going on."""
+    width = good_width(rng)
     if rng.random() < 0.6:
-        script.add(b"O" + bytes((settings(rng),)))
-    begin, end = stretch(rng, pool, rng.choice((60, 60, 300, 300, 3000)))
-    data = pool[begin:end]
+        script.open("receiver", settings(rng), opening_width(rng, width))
+    begin, end = stretch(rng, pools[width], rng.choice((60, 60, 300, 300, 3000)))
+    data = pools[width][begin:end]
     if rng.random() < 0.6:
         data = damaged(rng, data, 1)[:60000]
     script.receive(data)
@@ -730,7 +822,7 @@ def add_line(rng, script, pool):
 
 def add_session(rng, script):
     """Loads and sends of an opened sender."""
-    script.add(b"o" + bytes((settings(rng),)))
+    script.open("sender", settings(rng), opening_width(rng, good_width(rng)))
     for _ in range(rng.choice((1, 3, 6))):
         add_load(rng, script)
         add_sends(rng, script)
@@ -740,7 +832,7 @@ def add_fills(rng, script):
     """Octets put into areas near their ends and beyond, then shown, with the edges of another area."""
     for _ in range(rng.choice((1, 2, 5))):
         area, at = area_number(rng), rng.choice((*PLACES, rng.randrange(65536)))
-        length = rng.choice((0, 1, 2, 3, 20, 300, 2051))
+        length = rng.choice((0, 1, 2, 3, 20, 300, 2053))
         if rng.random() < 0.02:
             length = rng.choice((20480, 20481, 40960, 40961, 65535))
         script.add(fill(area, at, rng.randbytes(length)))
@@ -751,11 +843,28 @@ def add_fills(rng, script):
         script.show(other, WHOLE_AREAS[other] - 4, 9)
 
 
-def any_script(rng, pool):
+def add_wrong_width(rng, script):
+    """States with a wrong width, the rest in bounds or not, mostly with areas too short; and openings."""
+    before, lengths = script.lengths, [rng.choice((0, 1, 2049, 2050, 2051, 2053)) for _ in range(4)]
+    script.lend(lengths if rng.random() < 0.8 else LENT[32])
+    for end, make in (("sender", sender_state), ("receiver", receiver_state)):
+        if rng.random() < 0.3:
+            script.open(end, settings(rng), wrong_width(rng))
+        script.hand(end, [*disturbed(rng, make(rng))[:WIDTH], wrong_width(rng) + 256 * rng.choice((0, 0, 1, 255))])
+    for _ in range(2):
+        script.load(rng.randrange(2), packet(rng, rng.choice((0, 1, 2, 2048, 2049))))
+    script.next(rng.randint(1, 3))
+    script.receive(rng.choice((FLAG, b"\x05\x31\x7e", b"\xd1", b"1")))
+    script.lend(before)
+
+
+def any_script(rng, pools):
     script = Script()
+    if rng.random() < 0.8:
+        script.lend(LENT[32])
     for _ in range(rng.choice((1, 5, 40, 120))):
         if rng.random() < 0.15:
-            script.add(lend(area_lengths(rng)))
+            script.lend(area_lengths(rng))
         if rng.random() < 0.05:
             script.add(lend_out(out_length(rng)))
         kind = rng.random()
@@ -768,9 +877,11 @@ def any_script(rng, pool):
         elif kind < 0.83:
             add_held_frame(rng, script)
         elif kind < 0.86:
-            add_line(rng, script, pool)
+            add_line(rng, script, pools)
         elif kind < 0.90:
             add_fills(rng, script)
+        elif kind < 0.92:
+            add_wrong_width(rng, script)
         else:
             add_session(rng, script)
     if rng.random() < 0.1:
@@ -800,8 +911,21 @@ def longest_operands(rng):
     return b"".join((
         lend((65535,) * 4), lend_out(65535), *(fill(area, 0, rng.randbytes(65535)) for area in range(6)),
         *(fill(area, 65535, rng.randbytes(65535)) for area in range(6)), load_low(rng.randbytes(65535)), SHOW_STATES,
-        load_low(rng.randbytes(2048)), next_octets(65535), b"O\x03", receive(rng.randbytes(65535)), SHOW_STATES,
+        load_low(rng.randbytes(2048)), next_octets(65535), open_receiver(3), receive(rng.randbytes(65535)), SHOW_STATES,
         *(show(area, at, 65535) for area in range(6) for at in (0, 65535))))
+
+
+def every_width():
+    """Both ends opened with each of the 256, and states handed in with it; calls with nothing lent, with what 16 bits
+    want, and with what 32 bits want."""
+    parts = []
+    for width in range(256):
+        parts += [open_sender(width, width), open_receiver(width, width), SHOW_STATES]
+        for lengths in ((0,) * 4, *LENT.values()):
+            state = (3, *[0] * 9, width)
+            parts += [lend(lengths), hand_sender(state), load_low(b""), load_high(b"AB"), next_octets(2),
+                      hand_receiver(state), receive(b"\x06" + b"11111" + FLAG), SHOW_STATES]
+    return b"".join(parts)
 
 
 def fixed_scripts(rng):
@@ -810,12 +934,13 @@ def fixed_scripts(rng):
     yield "the start", SHOW_STATES + b"".join(show(area, 0, 65535) for area in range(len(WHOLE_AREAS)))
     for octet in range(256):
         yield f"command {octet} alone", SHOW_STATES + bytes((octet,))
-    for command in (b"o\x03", b"O\x03", load_low(b"AB"), load_high(b"AB"), next_octets(3), receive(b"\x01\x7e\x01\x7e"),
-                    lend((1, 2, 3, 4)), lend_out(5), fill(4, 1, b"AB"), hand_sender(range(10)),
-                    hand_receiver(range(10)), show(0, 1, 2)):
+    for command in (open_sender(3, 32), open_receiver(3, 32), load_low(b"AB"), load_high(b"AB"), next_octets(3),
+                    receive(b"\x01\x7e\x01\x7e"), lend((1, 2, 3, 4)), lend_out(5), fill(4, 1, b"AB"),
+                    hand_sender(range(11)), hand_receiver(range(11)), show(0, 1, 2)):
         for cut in range(1, len(command) + 1):
             yield f"command {command[:1].decode()}, {cut} octets", SHOW_STATES + command[:cut]
     yield "every area number", every_area_number()
+    yield "every width", every_width()
     yield "longest operands", longest_operands(rng)
 
 
@@ -834,45 +959,50 @@ def note_show(line, shown, seen):
     if line[:1] != "X" or len(line) != 1 + 3 * count:
         sys.exit(f"the model shows {line[:60]!r} where {count} octets were to be shown")
     if area >= len(WHOLE_AREAS):
-        seen.answers["show", "no such area"] += 1
+        seen.answers["show", "", "no such area"] += 1
     elif count < asked:
-        seen.answers["show", f"area {area} to its end" if count else f"beyond area {area}"] += 1
+        seen.answers["show", "", f"area {area} to its end" if count else f"beyond area {area}"] += 1
     else:
-        seen.answers["show", f"area {area}"] += 1
+        seen.answers["show", "", f"area {area}"] += 1
 
 
 def note_answers(script, out, seen):
     """Tells the lines of a whole script's output apart, call by call."""
     lines = out.decode().split("\n")
     at = 0
-    for kind, calls, shown in script.kinds:
+    for kind, calls, about in script.kinds:
         seen.calls += calls
         if kind in ("load", "next octet"):
             for line in lines[at:at + calls]:
-                seen.answers[kind, answer_of(line)] += 1
+                seen.answers[kind, about, answer_of(line)] += 1
             at += calls
+        elif kind in ("open sender", "open receiver"):
+            opened = about != "wrong width"
+            seen.answers[kind, about, "opened" if opened else answer_of(lines[at])] += 1
+            at += not opened
         elif kind == "receiver":
             begin = at
             while lines[at][0] != "S":
-                seen.answers[kind, answer_of(lines[at])] += 1
+                seen.answers[kind, about, answer_of(lines[at])] += 1
                 at += 1
-            seen.answers[kind, "Quiet"] += calls - (at - begin)
+            if quiet := calls - (at - begin):
+                seen.answers[kind, about, "Quiet"] += quiet
         elif kind == "states":
             at += 2
         elif kind == "show":
-            note_show(lines[at], shown, seen)
+            note_show(lines[at], about, seen)
             at += 1
     if lines[at:] != [""]:
         sys.exit("the model wrote other lines than its script asks for")
 
 
 def compare_scripts(programs, rng, total, seen):
-    pool = sound_line(programs, rng, 200_000, 0.8)
+    pools = {width: sound_line(programs, rng, 200_000, 0.8, width) for width in WIDTHS}
     for name, data in fixed_scripts(rng):
         programs.same("exercise", data, name)
         seen.scripts += 1
     while seen.calls < total:
-        script = any_script(rng, pool)
+        script = any_script(rng, pools)
         note_answers(script, programs.same("exercise", script.octets(), f"script {seen.scripts}"), seen)
         seen.scripts += 1
         if rng.random() < 0.2:
@@ -886,25 +1016,31 @@ def compare_scripts(programs, rng, total, seen):
 
 REPORTS = (["packets", "held", "held-replaced"]
            + [f"refused-{n}" for n in range(5, 15) if n not in (6, 11)])  # 6 and 11 need other settings than 03
-ANSWERS = ([("load", a) for a in ("D", "R 1", "R 2", "R 3", "R 4")]
-           + [("next octet", a) for a in ("O", "I", "R 2", "R 3")]
-           + [("receiver", a) for a in ("Quiet", "P area 0", "P area 1", "H replaced 0", "H replaced 1")]
-           + [("receiver", f"R {n}") for n in (2, 3, *range(5, 15))]
-           + [("show", words) for n in range(len(WHOLE_AREAS))
+CALLS = {"load": ["D", "R 1", "R 2", "R 3", "R 4"],
+         "next octet": ["O", "I", "R 2", "R 3"],
+         "receiver": ["Quiet", "P area 0", "P area 1", "H replaced 0", "H replaced 1",
+                      *(f"R {n}" for n in (2, 3, *range(5, 15)))]}
+# A wrong width is 3, whatever is lent; with areas for 16 bits alone a state of 32 is 2.
+ANSWERS = ([(call, f"{width} bits", a) for call, answers in CALLS.items() for width in WIDTHS for a in answers]
+           + [(call, about, a) for call in CALLS for about, a in (
+               ("32 bits, areas for 16", "R 2"), ("wrong width", "R 3"), ("wrong width, short area", "R 3"))]
+           + [(f"open {end}", about, a) for end in ("sender", "receiver") for about, a in (
+               ("16 bits", "opened"), ("32 bits", "opened"), ("wrong width", "R 3"))]
+           + [("show", "", words) for n in range(len(WHOLE_AREAS))
               for words in (f"area {n}", f"area {n} to its end", f"beyond area {n}")]
-           + [("show", "no such area")])
+           + [("show", "", "no such area")])
 
 
 def print_seen(seen):
     print(f"captures: {seen.captures}, octets compared: {seen.octets}")
     print("reports seen: " + ", ".join(f"{kind} {count}" for kind, count in seen.reports.items()))
     print(f"scripts: {seen.scripts}, calls compared: {seen.calls}")
-    for call in ("load", "next octet", "receiver", "show"):
-        print(f"answers of {call}: " + ", ".join(
-            f"{answer} {seen.answers[c, answer]}" for c, answer in ANSWERS if c == call))
+    for call, about in dict.fromkeys(key[:2] for key in ANSWERS):
+        print(f"answers of {call}{', ' * bool(about)}{about}: " + ", ".join(
+            f"{key[2]} {seen.answers[key]}" for key in ANSWERS if key[:2] == (call, about)))
     missing = [kind for kind in REPORTS if not seen.reports[kind]]
-    missing += [f"{call} {answer}" for call, answer in ANSWERS if not seen.answers[call, answer]]
-    strange = [f"{call} {answer}" for call, answer in seen.answers if (call, answer) not in ANSWERS]
+    missing += [" ".join(filter(None, key)) for key in ANSWERS if not seen.answers[key]]
+    strange = [" ".join(filter(None, key)) for key in seen.answers if key not in ANSWERS]
     print("not seen: " + (", ".join(missing) or "none"))
     if strange:
         print("not known: " + ", ".join(strange))

@@ -1,12 +1,13 @@
 //! An independent model of the COBS link of document 01 (settings ZXE and PRE, two lanes, two
-//! receive areas). Written from document 01 and the exercise driver's format alone; "01" in the
-//! comments is that document, and "step n" its numbered step. A comment `Reading:` marks a place
-//! where its words were weighed.
+//! receive areas), with the 32-bit check of document 02, slip 1. Written from these documents, the
+//! readings of 02 that were agreed on, and the exercise driver's format alone. "01" and "02" in the
+//! comments are the documents, and "step n" is 01's numbered step. A comment `Reading:` marks a
+//! place where the words were weighed.
 //!
 //!     rustc -C opt-level=3 --edition 2021 -o model model.rs
 //!
-//!     model capture    raw octets -> one line a report
-//!     model count      raw octets -> the thirteen counts of the tally
+//!     model capture    raw octets -> one line a report (16 bits)
+//!     model count      raw octets -> the thirteen counts of the tally (16 bits)
 //!     model exercise   commands of docs/EXERCISE.md -> one line an answer
 
 use std::io::{self, Read, Write};
@@ -38,17 +39,8 @@ const PAIR_BLOCK: usize = 30;
 const RUN_FEWEST: usize = 3;
 const RUN_MOST: usize = 15;
 
-const FCS_LENGTH: usize = 2;
 const PACKET_SHORTEST: usize = 2;
 const PACKET_LONGEST: usize = 2048;
-/// A frame is a packet and its FCS.
-const FRAME_SHORTEST: usize = PACKET_SHORTEST + FCS_LENGTH;
-const FRAME_LONGEST: usize = PACKET_LONGEST + FCS_LENGTH;
-/// Most decoded octets: the longest frame and its phantom.
-const DECODED_MOST: usize = FRAME_LONGEST + 1;
-
-const SENDER_AREA: usize = FRAME_LONGEST;
-const RECEIVER_AREA: usize = DECODED_MOST;
 
 /// Numbers of 01's refusal table.
 mod refusal {
@@ -72,7 +64,7 @@ mod refusal {
 }
 
 /// The settings octet; bits other than these two are kept and ignored.
-#[derive(Clone, Copy, Default)]
+#[derive(Clone, Copy)]
 struct Settings(u8);
 
 impl Settings {
@@ -89,22 +81,86 @@ impl Settings {
     }
 }
 
+/// The bits of the FCS, kept beside the settings octet. A state handed in may have any number here;
+/// only with an agreed one do the lengths below mean something.
+#[derive(Clone, Copy)]
+struct Width(u8);
+
+impl Width {
+    const SHORT: Width = Width(16);
+    const LONG: Width = Width(32);
+
+    fn agreed(self) -> bool {
+        self.0 == Width::SHORT.0 || self.0 == Width::LONG.0
+    }
+
+    fn check(self) -> &'static Check {
+        if self.0 == Width::LONG.0 {
+            &CHECK_32
+        } else {
+            &CHECK_16
+        }
+    }
+
+    fn fcs_length(self) -> usize {
+        usize::from(self.0 / 8)
+    }
+
+    /// A frame is a packet and its FCS.
+    fn frame_shortest(self) -> usize {
+        PACKET_SHORTEST + self.fcs_length()
+    }
+
+    fn frame_longest(self) -> usize {
+        PACKET_LONGEST + self.fcs_length()
+    }
+
+    /// Most decoded octets: the longest frame and its phantom.
+    fn decoded_most(self) -> usize {
+        self.frame_longest() + 1
+    }
+
+    fn sender_area(self) -> usize {
+        self.frame_longest()
+    }
+
+    fn receiver_area(self) -> usize {
+        self.decoded_most()
+    }
+}
+
 // ---------------------------------------------------------------------------------------------
 // Check sequence
 // ---------------------------------------------------------------------------------------------
 
-const REGISTER_START: u16 = 0xFFFF;
-const REGISTER_GOOD: u16 = 0xF0B8;
+/// A check of either width; the narrow one uses the low 16 bits of each number.
+struct Check {
+    table: [u32; 256],
+    /// All bits of the width set.
+    start: u32,
+    good: u32,
+}
 
-static FCS_TABLE: [u16; 256] = fcs_table();
+static CHECK_16: Check = Check {
+    table: fcs_table(0x8408),
+    start: 0xFFFF,
+    good: 0xF0B8,
+};
 
-/// An entry of the table: its place, halved eight times, with 8408 xored in wherever a one falls out.
-const fn fcs_entry(place: u16) -> u16 {
+static CHECK_32: Check = Check {
+    table: fcs_table(0xEDB8_8320),
+    start: 0xFFFF_FFFF,
+    good: 0xDEBB_20E3,
+};
+
+/// An entry of the table: its place, halved eight times, with the reflected polynomial xored in
+/// wherever a one falls out.
+const fn fcs_entry(place: u32, polynomial: u32) -> u32 {
     let mut entry = place;
     let mut step = 0;
     while step < 8 {
         entry = if entry % 2 == 1 {
-            (entry / 2) ^ 0x8408
+            (entry / 2) ^ polynomial
         } else {
             entry / 2
         };
@@ -113,26 +169,29 @@ const fn fcs_entry(place: u16) -> u16 {
     entry
 }
 
-const fn fcs_table() -> [u16; 256] {
+const fn fcs_table(polynomial: u32) -> [u32; 256] {
     let mut table = [0; 256];
     let mut place = 0;
     while place < 256 {
-        table[place] = fcs_entry(place as u16);
+        table[place] = fcs_entry(place as u32, polynomial);
         place += 1;
     }
     table
 }
 
-/// The register after all of `octets`, from its start value.
-fn register_over(octets: &[u8]) -> u16 {
-    octets.iter().fold(REGISTER_START, |register, &octet| {
-        (register >> 8) ^ FCS_TABLE[usize::from(register as u8 ^ octet)]
-    })
-}
+impl Check {
+    /// The register after all of `octets`, from its start value.
+    fn register_over(&self, octets: &[u8]) -> u32 {
+        octets.iter().fold(self.start, |register, &octet| {
+            (register >> 8) ^ self.table[usize::from(register as u8 ^ octet)]
+        })
+    }
 
-/// The FCS as it follows the packet: complement of the register, low octet first.
-fn fcs_of(packet: &[u8]) -> [u8; FCS_LENGTH] {
-    (!register_over(packet)).to_le_bytes()
+    /// The complement of the register over a packet, low octet first: its FCS, with zeros behind it
+    /// where the FCS has fewer than four octets.
+    fn complement_over(&self, packet: &[u8]) -> [u8; 4] {
+        (self.register_over(packet) ^ self.start).to_le_bytes()
+    }
 }
 
 // ---------------------------------------------------------------------------------------------
@@ -267,8 +326,9 @@ impl Lane {
         self.position == self.length + 1
     }
 
-    fn in_bounds(self) -> bool {
-        (self.length == 0 || (FRAME_SHORTEST..=FRAME_LONGEST).contains(&self.length))
+    fn in_bounds(self, width: Width) -> bool {
+        (self.length == 0
+            || (width.frame_shortest()..=width.frame_longest()).contains(&self.length))
             && self.position <= self.length + 1
     }
 }
@@ -286,9 +346,10 @@ enum Next {
     Refused(u8),
 }
 
-#[derive(Clone, Copy, Default)]
+#[derive(Clone, Copy)]
 struct Sender {
     settings: Settings,
+    width: Width,
     low: Lane,
     high: Lane,
     /// Data octets left in the block.
@@ -301,10 +362,26 @@ struct Sender {
 }
 
 impl Sender {
-    fn open(settings: Settings) -> Sender {
+    /// An opened sender, or the number of the refusal.
+    fn open(settings: Settings, width: Width) -> Result<Sender, u8> {
+        if width.agreed() {
+            Ok(Sender::fresh(settings, width))
+        } else {
+            Err(refusal::STATE)
+        }
+    }
+
+    fn fresh(settings: Settings, width: Width) -> Sender {
         Sender {
             settings,
-            ..Sender::default()
+            width,
+            low: Lane::default(),
+            high: Lane::default(),
+            left: 0,
+            zeros: 0,
+            on_line: None,
+            suspended: false,
+            cut_due: false,
         }
     }
 
@@ -322,11 +399,11 @@ impl Sender {
         }
     }
 
-    /// 01's paragraph "In bounds", the sender's part, clause by clause.
+    /// 01's paragraph "In bounds", the sender's part, clause by clause; the width is an agreed one.
     fn in_bounds(&self) -> bool {
         let low_on_line = self.on_line == Some(LaneName::Low);
-        self.low.in_bounds()
-            && self.high.in_bounds()
+        self.low.in_bounds(self.width)
+            && self.high.in_bounds(self.width)
             && self.left <= FULL_BLOCK
             && self.zeros <= 2
             && self.line_in_bounds()
@@ -351,8 +428,11 @@ impl Sender {
 
     /// Load of a lane, lent that lane's area.
     fn load(&mut self, name: LaneName, area: &mut [u8], packet: &[u8]) -> Loaded {
-        // Refusals of a call in the order 2, 3, 4, 1.
-        if area.len() < SENDER_AREA {
+        // Refusals of a call in the order 3 by the width, 2, 3 by the rest of the state, 4, 1.
+        if !self.width.agreed() {
+            return Loaded::Refused(refusal::STATE);
+        }
+        if area.len() < self.width.sender_area() {
             return Loaded::Refused(refusal::AREA_SHORT);
         }
         if !self.in_bounds() {
@@ -364,9 +444,11 @@ impl Sender {
         if !(PACKET_SHORTEST..=PACKET_LONGEST).contains(&packet.len()) {
             return Loaded::Refused(refusal::PACKET_LENGTH);
         }
-        let length = packet.len() + FCS_LENGTH;
+        let fcs_length = self.width.fcs_length();
+        let fcs = self.width.check().complement_over(packet);
+        let length = packet.len() + fcs_length;
         area[..packet.len()].copy_from_slice(packet);
-        area[packet.len()..length].copy_from_slice(&fcs_of(packet));
+        area[packet.len()..length].copy_from_slice(&fcs[..fcs_length]);
         *self.lane_mut(name) = Lane {
             length,
             position: 0,
@@ -376,7 +458,11 @@ impl Sender {
 
     /// Next octet, lent both areas.
     fn next_octet(&mut self, low_area: &[u8], high_area: &[u8]) -> Next {
-        if low_area.len() < SENDER_AREA || high_area.len() < SENDER_AREA {
+        if !self.width.agreed() {
+            return Next::Refused(refusal::STATE);
+        }
+        let least = self.width.sender_area();
+        if low_area.len() < least || high_area.len() < least {
             return Next::Refused(refusal::AREA_SHORT);
         }
         if !self.in_bounds() {
@@ -503,9 +589,8 @@ impl Sender {
 // Receiver
 // ---------------------------------------------------------------------------------------------
 
-#[derive(Clone, Copy, PartialEq, Eq, Default)]
+#[derive(Clone, Copy, PartialEq, Eq)]
 enum LastBlock {
-    #[default]
     None,
     Full,
     Other,
@@ -523,9 +608,10 @@ enum Answer {
 /// The two lent areas, first and second.
 type Areas<'a> = [&'a mut [u8]; 2];
 
-#[derive(Clone, Copy, Default)]
+#[derive(Clone, Copy)]
 struct Receiver {
     settings: Settings,
+    width: Width,
     /// Which area works: 0 the first, 1 the second. The other one is the held area.
     work: usize,
     decoded: usize,
@@ -541,17 +627,36 @@ struct Receiver {
 }
 
 impl Receiver {
-    fn open(settings: Settings) -> Receiver {
-        Receiver {
-            settings,
-            ..Receiver::default()
+    /// An opened receiver, or the number of the refusal.
+    fn open(settings: Settings, width: Width) -> Result<Receiver, u8> {
+        if width.agreed() {
+            Ok(Receiver::fresh(settings, width))
+        } else {
+            Err(refusal::STATE)
         }
     }
 
-    /// 01's paragraph "In bounds", the receiver's part.
+    fn fresh(settings: Settings, width: Width) -> Receiver {
+        Receiver {
+            settings,
+            width,
+            work: 0,
+            decoded: 0,
+            held: None,
+            left: 0,
+            zeros: 0,
+            last: LastBlock::None,
+            in_frame: false,
+            resumed: false,
+            refusal: None,
+        }
+    }
+
+    /// 01's paragraph "In bounds", the receiver's part; the width is an agreed one.
     fn in_bounds(&self) -> bool {
-        self.decoded <= DECODED_MOST
-            && self.held.is_none_or(|count| count <= DECODED_MOST)
+        let most = self.width.decoded_most();
+        self.decoded <= most
+            && self.held.is_none_or(|count| count <= most)
             && self.left <= FULL_BLOCK
             && self.zeros <= 2
             && self
@@ -565,7 +670,8 @@ impl Receiver {
     }
 
     /// What must be as in a fresh receiver while no frame is begun.
-    // Reading: the settings are as given at opening, so they are not tested either.
+    // Reading: the settings are as given at opening, so they are not tested either; nor is the
+    // width, once it is an agreed one.
     fn fresh_outside(&self) -> bool {
         self.decoded == 0
             && self.left == 0
@@ -591,7 +697,11 @@ impl Receiver {
 
     /// The receiver call: one octet, lent both areas.
     fn call(&mut self, areas: &mut Areas, octet: u8) -> Answer {
-        if areas.iter().any(|area| area.len() < RECEIVER_AREA) {
+        if !self.width.agreed() {
+            return Answer::Refused(refusal::STATE);
+        }
+        let least = self.width.receiver_area();
+        if areas.iter().any(|area| area.len() < least) {
             return Answer::Refused(refusal::AREA_SHORT);
         }
         if !self.in_bounds() {
@@ -671,7 +781,7 @@ impl Receiver {
     /// Step 3: a data octet, and with the last the block's zeros.
     #[inline]
     fn take_data(&mut self, areas: &mut Areas, octet: u8) {
-        if self.decoded + 1 > DECODED_MOST {
+        if self.decoded + 1 > self.width.decoded_most() {
             return self.refuse(refusal::TOO_MUCH);
         }
         areas[self.work][self.decoded] = octet;
@@ -686,7 +796,7 @@ impl Receiver {
     // Reading: a last data octet that fits is written even if its block's zeros do not.
     fn write_zeros(&mut self, areas: &mut Areas) {
         let end = self.decoded + self.zeros;
-        if end > DECODED_MOST {
+        if end > self.width.decoded_most() {
             return self.refuse(refusal::TOO_MUCH);
         }
         areas[self.work][self.decoded..end].fill(0);
@@ -702,7 +812,8 @@ impl Receiver {
         self.last = LastBlock::None;
     }
 
-    /// Step 5: the flag gives the report, and all but settings, turn and held count goes fresh.
+    /// Step 5: the flag gives the report, and all but settings, width, turn and held count goes
+    /// fresh.
     fn take_flag(&mut self, areas: &Areas) -> Answer {
         let report = if self.in_frame {
             self.report(areas)
@@ -711,10 +822,9 @@ impl Receiver {
         };
         self.note_held(report);
         *self = Receiver {
-            settings: self.settings,
             work: self.work,
             held: self.held,
-            ..Receiver::default()
+            ..Receiver::fresh(self.settings, self.width)
         };
         report
     }
@@ -755,15 +865,16 @@ impl Receiver {
     /// Step 5: the phantom goes, and what is left is a frame.
     fn report_whole(&self, areas: &Areas) -> Answer {
         let length = self.decoded.saturating_sub(1);
-        if length < FRAME_SHORTEST {
-            Answer::Refused(refusal::TOO_LITTLE)
-        } else if register_over(&areas[self.work][..length]) != REGISTER_GOOD {
-            Answer::Refused(refusal::FCS)
-        } else {
-            Answer::Packet {
-                area: self.work,
-                length: length - FCS_LENGTH,
-            }
+        if length < self.width.frame_shortest() {
+            return Answer::Refused(refusal::TOO_LITTLE);
+        }
+        let check = self.width.check();
+        if check.register_over(&areas[self.work][..length]) != check.good {
+            return Answer::Refused(refusal::FCS);
+        }
+        Answer::Packet {
+            area: self.work,
+            length: length - self.width.fcs_length(),
         }
     }
 
@@ -935,14 +1046,16 @@ impl<W: Write> Lines<W> {
 // Capture and count
 // ---------------------------------------------------------------------------------------------
 
-/// Runs a fresh receiver, both settings on, over all of the input; `note` gets each report.
+/// Runs a fresh receiver, both settings on and 16 bits, over all of the input; `note` gets each
+/// report.
 fn receive_all<N>(input: &mut impl Read, mut note: N) -> io::Result<()>
 where
     N: FnMut(Answer, &Areas) -> io::Result<()>,
 {
-    let (mut first, mut second) = ([0; RECEIVER_AREA], [0; RECEIVER_AREA]);
+    let mut receiver = Receiver::fresh(Settings::BOTH, Width::SHORT);
+    let mut first = vec![0; receiver.width.receiver_area()];
+    let mut second = first.clone();
     let mut areas: Areas = [&mut first, &mut second];
-    let mut receiver = Receiver::open(Settings::BOTH);
     let mut piece = vec![0; 1 << 18];
     loop {
         let count = input.read(&mut piece)?;
@@ -994,19 +1107,19 @@ fn count(input: &mut impl Read, mut output: impl Write) -> io::Result<()> {
 const END_AREA: usize = 20_480;
 /// The same of out.
 const OUT_AREA: usize = 40_960;
-/// Lent of out at the start.
-const OUT_LENT: usize = 2_051;
 const LOW: usize = 0;
 const HIGH: usize = 1;
 const FIRST: usize = 2;
 const SECOND: usize = 3;
 const OUT: usize = 4;
 const AREAS: usize = 5;
+/// Lent at the start: enough for 16 bits.
+const LENT: [usize; AREAS] = [2_050, 2_050, 2_051, 2_051, 2_051];
 
 /// A command with all of its operands.
 enum Command<'a> {
-    OpenSender(Settings),
-    OpenReceiver(Settings),
+    OpenSender(Settings, Width),
+    OpenReceiver(Settings, Width),
     Load(LaneName, &'a [u8]),
     Next(usize),
     Receive(&'a [u8]),
@@ -1037,8 +1150,8 @@ impl<'a> Script<'a> {
     /// The next command; None when it is unknown or cut short.
     fn command(&mut self) -> Option<Command<'a>> {
         Some(match self.octet()? {
-            b'o' => Command::OpenSender(Settings(self.octet()?)),
-            b'O' => Command::OpenReceiver(Settings(self.octet()?)),
+            b'o' => Command::OpenSender(Settings(self.octet()?), Width(self.octet()?)),
+            b'O' => Command::OpenReceiver(Settings(self.octet()?), Width(self.octet()?)),
             b'l' => Command::Load(LaneName::Low, self.octets()?),
             b'h' => Command::Load(LaneName::High, self.octets()?),
             b'n' => Command::Next(self.number()?),
@@ -1092,11 +1205,13 @@ impl<'a> Script<'a> {
     }
 }
 
-/// The ten numbers of `s`.
-fn sender_of(numbers: [usize; 10]) -> Sender {
-    let [settings, low, low_at, high, high_at, left, zeros, line, suspended, cut_due] = numbers;
+/// The eleven numbers of `s`.
+fn sender_of(numbers: [usize; 11]) -> Sender {
+    let [settings, low, low_at, high, high_at, left, zeros, line, suspended, cut_due, width] =
+        numbers;
     Sender {
         settings: Settings((settings % 256) as u8),
+        width: Width((width % 256) as u8),
         low: Lane {
             length: low,
             position: low_at,
@@ -1113,7 +1228,7 @@ fn sender_of(numbers: [usize; 10]) -> Sender {
     }
 }
 
-fn sender_numbers(sender: &Sender) -> [usize; 10] {
+fn sender_numbers(sender: &Sender) -> [usize; 11] {
     [
         usize::from(sender.settings.0),
         sender.low.length,
@@ -1129,14 +1244,17 @@ fn sender_numbers(sender: &Sender) -> [usize; 10] {
         },
         usize::from(sender.suspended),
         usize::from(sender.cut_due),
+        usize::from(sender.width.0),
     ]
 }
 
-/// The ten numbers of `t`.
-fn receiver_of(numbers: [usize; 10]) -> Receiver {
-    let [settings, work, decoded, held, left, zeros, last, in_frame, resumed, remembered] = numbers;
+/// The eleven numbers of `t`.
+fn receiver_of(numbers: [usize; 11]) -> Receiver {
+    let [settings, work, decoded, held, left, zeros, last, in_frame, resumed, remembered, width] =
+        numbers;
     Receiver {
         settings: Settings((settings % 256) as u8),
+        width: Width((width % 256) as u8),
         work: work % 2,
         decoded,
         held: held.checked_sub(1),
@@ -1149,7 +1267,7 @@ fn receiver_of(numbers: [usize; 10]) -> Receiver {
     }
 }
 
-fn receiver_numbers(receiver: &Receiver) -> [usize; 10] {
+fn receiver_numbers(receiver: &Receiver) -> [usize; 11] {
     [
         usize::from(receiver.settings.0),
         receiver.work,
@@ -1165,6 +1283,7 @@ fn receiver_numbers(receiver: &Receiver) -> [usize; 10] {
         usize::from(receiver.in_frame),
         usize::from(receiver.resumed),
         receiver.refusal.map_or(0, usize::from),
+        usize::from(receiver.width.0),
     ]
 }
 
@@ -1186,16 +1305,10 @@ struct Bench<W: Write> {
 impl<W: Write> Bench<W> {
     fn new(output: W) -> Bench<W> {
         Bench {
-            sender: Sender::open(Settings(0)),
-            receiver: Receiver::open(Settings(0)),
+            sender: Sender::fresh(Settings(0), Width::SHORT),
+            receiver: Receiver::fresh(Settings(0), Width::SHORT),
             areas: [END_AREA, END_AREA, END_AREA, END_AREA, OUT_AREA].map(|whole| vec![0; whole]),
-            lengths: [
-                SENDER_AREA,
-                SENDER_AREA,
-                RECEIVER_AREA,
-                RECEIVER_AREA,
-                OUT_LENT,
-            ],
+            lengths: LENT,
             lines: Lines::new(output),
         }
     }
@@ -1216,8 +1329,14 @@ impl<W: Write> Bench<W> {
 
     fn carry_out(&mut self, command: Command) -> io::Result<()> {
         match command {
-            Command::OpenSender(settings) => self.sender = Sender::open(settings),
-            Command::OpenReceiver(settings) => self.receiver = Receiver::open(settings),
+            Command::OpenSender(settings, width) => match Sender::open(settings, width) {
+                Ok(sender) => self.sender = sender,
+                Err(number) => self.lines.refused(number)?,
+            },
+            Command::OpenReceiver(settings, width) => match Receiver::open(settings, width) {
+                Ok(receiver) => self.receiver = receiver,
+                Err(number) => self.lines.refused(number)?,
+            },
             Command::Load(name, packet) => self.load(name, packet)?,
             Command::Next(count) => self.next(count)?,
             Command::Receive(octets) => self.receive(octets)?,

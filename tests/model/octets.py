@@ -3,10 +3,10 @@
 
     python3 octets.py --library PATH [--cases N] [--seed S]
 
-A case is 64 octets, two areas, and some calls on them. The octets spell a state, in bounds or not, or none. Of each
-call the answer, all 64 octets, both areas and what lies around them must be what the model answers and leaves, whose
-numbers are packed and unpacked here. Prints one line, and exits 1 at the first difference, or if a run of full size
-did not see every answer of every call.
+A case is 64 octets, two areas, and some calls on them. The octets spell a state, in bounds or not, or none, with a
+width of 16 bits, of 32 or a wrong one. Of each call the answer, all 64 octets, both areas and what lies around them
+must be what the model answers and leaves, whose numbers are packed and unpacked here. Prints one line, and exits 1 at
+the first difference, or if a run of full size did not see every answer of every call, at either width.
 """
 import argparse
 import collections
@@ -17,13 +17,13 @@ import subprocess
 import sys
 import tempfile
 
-from compare import (FLAG, SHOW_STATES, build_model, fcs, fill, hand_receiver, hand_sender, lend, load_high, load_low,
-                     next_octets, receive, show)
+from compare import (FLAG, LENT, SHOW_STATES, WIDTH, WIDTHS, build_model, fcs, fill, hand_receiver, hand_sender, lend,
+                     load_high, load_low, next_octets, open_receiver, open_sender, receive, show, wrong_width)
 
 FULL = 20_000       # cases of a run of full size
 BATCH = 500         # cases that the model is asked in one run
 STATE = 64
-SENDER_AREA, RECEIVER_AREA = 2050, 2051
+SENDER_AREA, RECEIVER_AREA = ({width: LENT[width][place] for width in WIDTHS} for place in (0, 2))
 LONGEST_AREA, LONGEST_LINE = 4095, 4000
 GUARD = 32          # octets behind each area, and on both sides of the state, that nobody may write
 QUIET, PACKET, HELD, REFUSED, DONE, OCTET, IDLE = range(7)
@@ -38,24 +38,25 @@ class ReceiverOctets:
     20 data left, 21 zeros due, 22 last block, 23 in a frame, 24 resumed, 25 remembered refusal."""
     layout = struct.Struct("<BBHBBIBHBHIBBBBBB")
     bounded = {10: 1, 13: 1, 22: 2, 23: 1, 24: 1}  # places, and the largest value there that spells something
-    largest = (255, 1, 65535, 65536, 255, 255, 2, 1, 1, 255)  # of each number, as far as its field goes
+    largest = (255, 1, 65535, 65536, 255, 255, 2, 1, 1, 255, 255)  # of each number, as far as its field goes
 
     @classmethod
     def pack(cls, numbers, rng=None):
         """The octets of a state; with rng, any in the fields that are not looked at."""
-        settings, work, decoded, held, left, zeros, last, in_frame, resumed, refusal = numbers
-        width, limit, mode, plain, register, count = (
-            (16, 2048, 0, 0, 0, 0) if rng is None else
-            (rng.randrange(256), rng.randrange(65536), rng.randrange(256), rng.getrandbits(32), rng.getrandbits(32),
-             rng.choice((1, 2051, 2052, 65535))))
+        settings, work, decoded, held, left, zeros, last, in_frame, resumed, refusal, width = numbers
+        limit, mode, plain, register, count = (
+            (2048, 0, 0, 0, 0) if rng is None else
+            (rng.randrange(65536), rng.randrange(256), rng.getrandbits(32), rng.getrandbits(32),
+             rng.choice((1, 2051, 2052, 2053, 2054, 65535))))
         return cls.layout.pack(1, width, limit, settings, mode, plain, work, decoded, held > 0,
                                held - 1 if held else count, register, left, zeros, last, in_frame, resumed, refusal)
 
     @classmethod
     def unpack(cls, octets):
-        (_, _, _, settings, _, _, work, decoded, something, count, _, left, zeros, last, in_frame, resumed,
+        (_, width, _, settings, _, _, work, decoded, something, count, _, left, zeros, last, in_frame, resumed,
          refusal) = cls.layout.unpack(octets[:cls.layout.size])
-        return [settings, work, decoded, count + 1 if something else 0, left, zeros, last, in_frame, resumed, refusal]
+        return [settings, work, decoded, count + 1 if something else 0, left, zeros, last, in_frame, resumed, refusal,
+                width]
 
 
 class SenderOctets:
@@ -63,25 +64,24 @@ class SenderOctets:
     position, 12-13 high length, 14-15 high position, 16 data left, 17 zeros due, 18-37 the dispatcher's."""
     layout = struct.Struct("<BBHBBBBHHHHBB20s")
     bounded = {5: 2, 6: 1, 7: 1}
-    largest = (255, 65535, 65535, 65535, 65535, 255, 255, 2, 1, 1)
+    largest = (255, 65535, 65535, 65535, 65535, 255, 255, 2, 1, 1, 255)
 
     @classmethod
     def pack(cls, numbers, rng=None):
-        settings, low, low_at, high, high_at, left, zeros, lane, suspended, cut_due = numbers
-        width, limit, dispatcher = (16, 2048, bytes(20)) if rng is None else (
-            rng.randrange(256), rng.randrange(65536), rng.randbytes(20))
+        settings, low, low_at, high, high_at, left, zeros, lane, suspended, cut_due, width = numbers
+        limit, dispatcher = (2048, bytes(20)) if rng is None else (rng.randrange(65536), rng.randbytes(20))
         return cls.layout.pack(1, width, limit, settings, lane, suspended, cut_due, low, low_at, high, high_at, left,
                                zeros, dispatcher)
 
     @classmethod
     def unpack(cls, octets):
-        (_, _, _, settings, lane, suspended, cut_due, low, low_at, high, high_at, left, zeros,
+        (_, width, _, settings, lane, suspended, cut_due, low, low_at, high, high_at, left, zeros,
          _) = cls.layout.unpack(octets[:cls.layout.size])
-        return [settings, low, low_at, high, high_at, left, zeros, lane, suspended, cut_due]
+        return [settings, low, low_at, high, high_at, left, zeros, lane, suspended, cut_due, width]
 
 
 def spells(kind, octets):
-    """Whether octets spell a state."""
+    """Whether octets spell a state, with any width."""
     return octets[0] == 1 and all(octets[at] <= most for at, most in kind.bounded.items())
 
 
@@ -91,14 +91,15 @@ def spells(kind, octets):
 
 CODES = bytes.fromhex("00 01 02 31 7E CF D0 D1 D2 D3 DF E0 FE FF")
 FEW = bytes(b"\0\0\0\1\x7e\xff"[octet % 6] for octet in range(256))
-EDGES = (0, 1, 2, 3, 4, 5, 10, 11, 206, 207, 208, 255, 256, 2048, 2049, 2050, 2051, 2052, 65535, 65536)
+EDGES = (0, 1, 2, 3, 4, 5, 6, 7, 10, 11, 206, 207, 208, 255, 256, *range(2048, 2055), 65535, 65536)
 
 
-def sender_numbers(rng):
+def sender_numbers(rng, width):
     """A sender in bounds."""
     lanes = []
+    least, most = 2 + width // 8, 2048 + width // 8
     for _ in range(2):
-        length = rng.choice((0, 0, 4, 5, 33, 210, 2050, rng.randint(4, 2050)))
+        length = rng.choice((0, 0, least, least + 1, 33, 210, most, rng.randint(least, most)))
         lanes += length, rng.choice((0, 0, length, length + 1, rng.randint(0, length + 1)))
     lane = rng.choice([0] + [1] * 3 * (lanes[0] > 0) + [2] * 2 * (lanes[2] > 0))
     left = zeros = 0
@@ -108,29 +109,29 @@ def sender_numbers(rng):
         zeros = min(room - left, rng.randrange(3)) if left else 0
     suspended = int(lanes[0] > 0 and lane != 1 and rng.random() < 0.5)
     cut_due = int(lane == 1 and left == 0 and rng.random() < 0.3)
-    return [rng.choice((3, 3, 3, 2, 1, 0, rng.randrange(256))), *lanes, left, zeros, lane, suspended, cut_due]
+    return [rng.choice((3, 3, 3, 2, 1, 0, rng.randrange(256))), *lanes, left, zeros, lane, suspended, cut_due, width]
 
 
-def receiver_numbers(rng):
+def receiver_numbers(rng, width):
     """A receiver in bounds."""
-    settings = rng.choice((3, 3, 3, 3, 2, 1, 0, rng.randrange(256)))
-    work, held = rng.randrange(2), rng.choice((0, 0, 1, 2, 9, 2051, 2052, rng.randint(0, 2052)))
+    settings, most = rng.choice((3, 3, 3, 3, 2, 1, 0, rng.randrange(256))), 2049 + width // 8
+    work, held = rng.randrange(2), rng.choice((0, 0, 1, 2, 9, most, most + 1, rng.randint(0, most + 1)))
     if rng.random() < 0.3:
-        return [settings, work, 0, held, 0, 0, 0, 0, 0, 0]
-    decoded = rng.choice((0, 0, 1, 4, 5, 2040, 2048, 2049, 2050, 2051, rng.randint(0, 2051)))
+        return [settings, work, 0, held, 0, 0, 0, 0, 0, 0, width]
+    decoded = rng.choice((0, 0, 1, 4, 5, 6, 7, 2040, *range(most - 3, most + 1), rng.randint(0, most)))
     left, zeros, last = rng.choice((0, 0, 0, 1, 2, 207, rng.randint(0, 207))), rng.randrange(3), rng.randrange(3)
     refusal = rng.choice((0, 0, 0, rng.randint(5, 10)))
     resumed = 1 if refusal == 0 and last == 0 else rng.randrange(2)
     if refusal == 0 and last == 2 and left == 0:
         decoded = max(decoded, 1)
-    return [settings, work, decoded, held, left, zeros, last, 1, resumed, refusal]
+    return [settings, work, decoded, held, left, zeros, last, 1, resumed, refusal, width]
 
 
 def disturbed(rng, kind, numbers):
     """One number or two moved by one or put to an edge."""
     numbers = list(numbers)
     for _ in range(rng.choice((1, 1, 2))):
-        at = rng.randrange(1, 10)
+        at = rng.randrange(1, 11)
         numbers[at] = rng.choice((numbers[at] - 1, numbers[at] + 1, rng.choice(EDGES), rng.choice(EDGES)))
         numbers[at] = min(kind.largest[at], max(0, numbers[at]))
     return numbers
@@ -154,7 +155,7 @@ def spoiled(rng, kind, octets):
 
 def area_length(rng, least):
     return rng.choice((least,) * 12 + (least + 1, rng.randint(least, LONGEST_AREA), LONGEST_AREA, least - 1,
-                                       rng.choice((0, 1, rng.randrange(least)))))
+                                       rng.choice((0, 1, least - 2, rng.randrange(least)))))
 
 
 def content(rng, length):
@@ -189,27 +190,30 @@ def encoded(frame):
     return out.replace(FLAG, b"\0")
 
 
-def frame(rng, lengths=(2, 3, 9, 40, 300, 2047, 2048)):
-    """A packet with its FCS, seldom a packet of a wrong length or a wrong FCS."""
+def frame(rng, width, lengths=(2, 3, 9, 40, 300, 2047, 2048)):
+    """A packet with its FCS, seldom a packet of a wrong length, a wrong FCS or one of another width."""
     packet = content(rng, rng.choice((*lengths, *lengths, 0, 1)))
-    check = fcs(packet)
+    width = width if width in WIDTHS and rng.random() < 0.95 else rng.choice(WIDTHS)
+    check = fcs(packet, width)
     return packet + (check if rng.random() < 0.8 else check[::-1])
 
 
-def line_piece(rng):
+def line_piece(rng, width):
     way = rng.randrange(12)
     if way < 3:
         return FLAG
     if way < 5:
-        return encoded(frame(rng)) + FLAG
+        return encoded(frame(rng, width)) + FLAG
     if way == 5:
-        return b"\xd1" + rng.choice((b"", encoded(frame(rng, (2, 9)))[rng.randrange(3):], rng.randbytes(3))) + FLAG
+        rest = encoded(frame(rng, width, (2, 9)))[rng.randrange(3):]
+        return b"\xd1" + rng.choice((b"", rest, rng.randbytes(3))) + FLAG
     if way == 6:
         return bytes(rng.choices(CODES, k=rng.randint(1, 12)))
     if way == 7:
         return b"\xd0" + b"1" * rng.randint(205, 208) + rng.choice((b"", b"\1", FLAG))
     if way == 8:
-        return b"\xdf" * rng.randint(134, 138) + rng.choice((b"\xda", b"\xdb", b"\xdc", b"\xe0", b"\2\x31", FLAG))
+        return b"\xdf" * rng.choice((136, rng.randint(134, 138))) + rng.choice(
+            (b"\xda", b"\xdb", b"\xdc", b"\xdd", b"\xde", b"\xe0", b"\xdc\2\x31", b"\2\x31", FLAG))
     if way == 9:
         return b"\xff" + rng.randbytes(rng.randrange(4)) + FLAG
     return rng.randbytes(rng.choice((1, 2, 30, 300)))
@@ -227,7 +231,7 @@ def load_library(path):
     library = ctypes.CDLL(path)
     octets, length, octet, number = ctypes.c_void_p, ctypes.c_size_t, ctypes.c_uint8, ctypes.c_uint32
     for name, result, *arguments in (
-            ("receiver_open", number, octets, octet), ("sender_open", number, octets, octet),
+            ("receiver_open", number, octets, octet, octet), ("sender_open", number, octets, octet, octet),
             ("receive", number, octets, octet, octets, length, octets, length),
             ("read_on", Stretch, octets, octets, length, octets, length, octets, length),
             ("load_low", number, octets, octets, length, octets, length),
@@ -274,24 +278,28 @@ class Bench:
         rng = self.rng
         self.receiving = rng.random() < 0.5
         self.kind = ReceiverOctets if self.receiving else SenderOctets
-        least = RECEIVER_AREA if self.receiving else SENDER_AREA
-        areas = [content(rng, area_length(rng, least)) for _ in range(2)]
-        numbers = receiver_numbers(rng) if self.receiving else sender_numbers(rng)
+        width, wrong = rng.choice(WIDTHS), rng.random() < 0.1
+        least = (RECEIVER_AREA if self.receiving else SENDER_AREA)[width]
+        lengths = [rng.choice((0, 1, least - 1, least, least)) if wrong else area_length(rng, least) for _ in range(2)]
+        areas = [content(rng, length) for length in lengths]
+        numbers = (receiver_numbers if self.receiving else sender_numbers)(rng, width)
         first = None
         if self.receiving and rng.random() < 0.3:
-            numbers, first = self.frame_decoded(areas) if rng.random() < 0.7 else self.frame_held(areas)
+            numbers, first = (self.frame_decoded if rng.random() < 0.7 else self.frame_held)(areas, width)
         if rng.random() < 0.25:
             numbers = disturbed(rng, self.kind, numbers)
+        if wrong:
+            numbers[WIDTH] = rng.choice((wrong_width(rng), wrong_width(rng), 48 - width))
         octets = self.kind.pack(numbers, rng if rng.random() < 0.6 else None)
         octets += rng.randbytes(STATE - len(octets))
-        if rng.random() < 0.1:
+        if rng.random() < 0.15:
             octets = spoiled(rng, self.kind, octets)
         shift = GUARD + rng.randrange(8)
         self.state.put(rng, rng.randbytes(shift) + octets, shift)
         for memory, area in zip(self.areas, areas):
             memory.put(rng, area)
         base = 2 if self.receiving else 0
-        lengths = [SENDER_AREA] * 2 + [RECEIVER_AREA] * 2
+        lengths = [*LENT[16]]
         lengths[base:base + 2] = map(len, areas)
         commands = lend(lengths) + fill(base, 0, areas[0]) + fill(base + 1, 0, areas[1])
         for _ in range(rng.choice((1, 1, 1, 2, 4))):
@@ -301,44 +309,49 @@ class Bench:
                 commands = b""
             first = None
 
-    def frame_decoded(self, areas):
+    def frame_decoded(self, areas, width):
         """A whole frame in the work area, its flag to come."""
         rng, work = self.rng, self.rng.randrange(2)
-        octets = frame(rng) + b"\0"
+        octets = frame(rng, width) + b"\0"
         areas[work] = octets + areas[work][len(octets):] if len(areas[work]) >= len(octets) else areas[work]
-        numbers = [rng.choice((3, 2, 1, 0)), work, len(octets), rng.choice((0, 1, 9, 2052)), 0, 0, 2, 1,
-                   rng.randrange(2), 0]
+        numbers = [rng.choice((3, 2, 1, 0)), work, len(octets), rng.choice((0, 1, 9, 2050 + width // 8)), 0, 0, 2, 1,
+                   rng.randrange(2), 0, width]
         return numbers, FLAG
 
-    def frame_held(self, areas):
+    def frame_held(self, areas, width):
         """The beginning of a frame in the area that holds, its rest to come."""
         rng, work = self.rng, self.rng.randrange(2)
-        octets = frame(rng, (2, 9, 100))
+        octets = frame(rng, width, (2, 9, 100))
         cut = rng.randint(0, len(octets))
         areas[1 - work] = octets[:cut] + areas[1 - work][cut:] if len(areas[1 - work]) >= cut else areas[1 - work]
-        return [rng.choice((3, 2, 3, 2, 1)), work, 0, cut + 1, 0, 0, 0, 0, 0, 0], b"\xd1" + encoded(octets[cut:]) + FLAG
+        numbers = [rng.choice((3, 2, 3, 2, 1)), work, 0, cut + 1, 0, 0, 0, 0, 0, 0, width]
+        return numbers, b"\xd1" + encoded(octets[cut:]) + FLAG
 
     def call(self, octets):
         """Makes a call, with these octets if there are any."""
         rng = self.rng
-        if octets is None and rng.random() < 0.01:
+        if octets is None and rng.random() < 0.02:
             return self.open()
         if self.receiving:
             if octets is None or len(octets) > 1 and rng.random() < 0.2:
+                width = self.spelt()[1]
                 return self.receive() if rng.random() < 0.5 else self.read_on(
-                    b"".join(line_piece(rng) for _ in range(rng.choice((0, 1, 1, 2, 4)))))
+                    b"".join(line_piece(rng, width) for _ in range(rng.choice((0, 1, 1, 2, 4)))))
             return self.receive(octets) if len(octets) == 1 and rng.random() < 0.5 else self.read_on(octets)
         return rng.choice((self.load, self.next, self.write_on))()
 
     def lent(self):
         return [lent for area in self.areas for lent in (area.lent, area.length)]
 
+    def spelt(self):
+        """The 64 octets, as they are handed in."""
+        return self.state.whole[self.state.before:self.state.before + STATE]
+
     def made(self, name, operand, answer, count, line=b""):
         """The call as it was made; then memory is taken as it is now."""
-        state = self.state.whole
-        spelt = state[self.state.before:self.state.before + STATE]
-        done = Call(name, operand, answer, count, spelt, self.state.before, (state, self.state.octets()),
-                    [(area.whole, area.octets()) for area in self.areas], line, [area.length for area in self.areas])
+        done = Call(name, operand, answer, count, self.spelt(), self.state.before,
+                    (self.state.whole, self.state.octets()), [(area.whole, area.octets()) for area in self.areas], line,
+                    [area.length for area in self.areas])
         for memory in (self.state, *self.areas):
             memory.whole = memory.octets()
         return done
@@ -358,10 +371,11 @@ class Bench:
             show(2 * self.receiving + area, 0, self.areas[area].length) for area in areas)
 
     def open(self):
-        settings = self.rng.randrange(256)
-        name = "receiver_open" if self.receiving else "sender_open"
-        made = self.made(name, settings, getattr(self.library, "kuta_" + name)(self.state.lent, settings), 0)
-        return made, (b"O" if self.receiving else b"o") + bytes((settings,)) + SHOW_STATES
+        settings, width = self.rng.randrange(256), self.rng.choice((*WIDTHS, wrong_width(self.rng)))
+        name, command = ("receiver_open", open_receiver) if self.receiving else ("sender_open", open_sender)
+        answer = getattr(self.library, "kuta_" + name)(self.state.lent, settings, width)
+        made = self.made(name, (settings, width), answer, 0)
+        return made, command(settings, width) + SHOW_STATES
 
     def receive(self, octets=None):
         rng = self.rng
@@ -435,7 +449,8 @@ def label(call, no_state):
     """What an answer is called in the line that is printed."""
     kind, mark, value = call.answer >> 24, call.answer >> 16 & 1, call.answer & 0xFFFF
     if kind == REFUSED:
-        return f"R{value}" + "-no-state" * no_state
+        short = not call.name.endswith("open") and width_of(call) == 0 and shortest(call) < SENDER_AREA[16]
+        return f"R{value}" + "-short" * short + "-no-state" * no_state
     if call.name == "write_on" and kind == OCTET:
         return "flag" if value == FLAG[0] else "room"
     if call.name in ("read_on", "write_on") and kind == QUIET and call.count == 0:
@@ -443,21 +458,37 @@ def label(call, no_state):
     return ("quiet", "P", "H", "", "done", "octet", "idle")[kind] + (str(mark) if kind in (PACKET, HELD) else "")
 
 
+def width_of(call):
+    """The width that a call is handed, by the 64 octets or to open with: 16, 32, or 0 for any other."""
+    width = call.operand[1] if call.name.endswith("open") else call.spelt[1]
+    return width if width in WIDTHS else 0
+
+
+def shortest(call):
+    """The shortest of the areas that a call is lent."""
+    return min({"load_low": call.lengths[:1], "load_high": call.lengths[1:]}.get(call.name, call.lengths))
+
+
 REPORTS = ["quiet", "P0", "P1", "H0", "H1", "R2", "R2-no-state", "R3", "R3-no-state", *(f"R{n}" for n in range(5, 15))]
 LOADS = ["done", "R1", "R2", "R2-no-state", "R3", "R3-no-state", "R4"]
 ENDS = ["idle", "R2", "R2-no-state", "R3", "R3-no-state"]
-ANSWERS = {"receiver_open": ["done"], "receive": REPORTS, "read_on": ["nothing", *REPORTS], "sender_open": ["done"],
-           "load_low": LOADS, "load_high": LOADS, "next": ["octet", *ENDS],
-           "write_on": ["nothing", "flag", "room", *ENDS]}
+ANSWERS = {"receive": REPORTS, "read_on": ["nothing", *REPORTS], "load_low": LOADS, "load_high": LOADS,
+           "next": ["octet", *ENDS], "write_on": ["nothing", "flag", "room", *ENDS]}
+# At each width; any other width is refused 3, also where an area is too short for either.
+WANTED = {(name, f"{width} bits"): answers for name, answers in ANSWERS.items() for width in WIDTHS}
+WANTED |= {(name, "wrong width"): ["R3", "R3-no-state", "R3-short", "R3-short-no-state"] + [
+    "nothing"] * ("nothing" in answers) for name, answers in ANSWERS.items()}
+WANTED |= {(f"{end}_open", about): answers for end in ("receiver", "sender") for about, answers in (
+    ("16 bits", ["done"]), ("32 bits", ["done"]), ("wrong width", ["R3"]))}
 
 
 def unasked(call):
     """The answer where the model is not asked: there is no state, or nothing to do."""
     if call.name == "read_on" and not call.operand or call.name == "write_on" and not call.operand:
         return QUIET, 0
-    least = RECEIVER_AREA if call.name in ("receive", "read_on") else SENDER_AREA
-    lent = {"load_low": call.lengths[:1], "load_high": call.lengths[1:]}.get(call.name, call.lengths)
-    return REFUSED << 24 | (2 if min(lent) < least else 3), int(call.name in ("receive", "read_on", "next"))
+    width = width_of(call)
+    least = (RECEIVER_AREA if call.name in ("receive", "read_on") else SENDER_AREA)[width] if width else 0
+    return REFUSED << 24 | (2 if shortest(call) < least else 3), int(call.name in ("receive", "read_on", "next"))
 
 
 def told(call, lines):
@@ -494,7 +525,7 @@ def check(call, asked, lines, seen):
     wanted = before
     if asked:
         said, numbers = told(call, lines)
-        answer, count = DONE << 24 if call.name.endswith("open") else answer_of(said), call.count
+        answer, count = answer_of("D" if call.name.endswith("open") and not said else said), call.count
         if call.name == "read_on":
             must(count <= len(call.operand), "octets read", count, len(call.operand))
             must(answer != QUIET or count == len(call.operand), "octets read", count, len(call.operand))
@@ -518,7 +549,7 @@ def check(call, asked, lines, seen):
     if call.line:
         whole, got = call.line
         same("line behind what was written", got[count:], whole[count:])
-    seen[call.name, label(call, not asked)] += 1
+    seen[call.name, f"{width_of(call)} bits" if width_of(call) else "wrong width", label(call, not asked)] += 1
 
 
 def compare(model, bench, cases, seen):
@@ -553,11 +584,11 @@ def main():
         model = build_model(folder)
         for begin in range(0, asked.cases, BATCH):
             compare(model, bench, range(begin, min(begin + BATCH, asked.cases)), seen)
-    wanted = [(name, answer) for name, answers in ANSWERS.items() for answer in answers]
-    missing = [" ".join(pair) for pair in wanted if not seen[pair]]
+    wanted = [(*about, answer) for about, answers in WANTED.items() for answer in answers]
+    missing = [" ".join(key) for key in wanted if not seen[key]]
     print(f"cases {asked.cases}, calls {sum(seen.values())}, 0 differ; " + "; ".join(
-        f"{name}: " + ", ".join(f"{answer} {seen[name, answer]}" for answer in answers)
-        for name, answers in ANSWERS.items()))
+        f"{', '.join(about)}: " + ", ".join(f"{answer} {seen[(*about, answer)]}" for answer in answers)
+        for about, answers in WANTED.items()))
     strange = sorted(set(seen) - set(wanted))
     if strange or missing and asked.cases >= FULL:
         sys.exit(f"not seen: {', '.join(missing) or 'none'}; not known: {strange or 'none'}")

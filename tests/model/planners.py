@@ -4,8 +4,9 @@
     python3 tests/model/planners.py               prints the table
     python3 tests/model/planners.py --send SEND   and holds the program `send` against the fewest octets
 
-For COBS the fewest octets are looked for among all lists of blocks that the code table has (the COBS draft, section 3), from the end of D to its
-front; how a sender chooses its blocks is not written here. Octet stuffing is counted by RFC 1662's rule (sections 4.2 and 7.1).
+For COBS the fewest octets are looked for among all lists of blocks that the code table has (the COBS draft, section 3),
+from the end of D to its front; how a sender chooses its blocks is not written here. Octet stuffing is counted by RFC
+1662's rule (sections 4.2 and 7.1). In the table the FCS has 16 bits; `send` is held against the fewest with 16 and with 32.
 """
 import hashlib
 import random
@@ -95,7 +96,7 @@ def stretches(numbers, size):
     return packet
 
 
-def trials():
+def trials(width):
     """The packets of the table; a thousand others; and some whose FCS ends in a zero, which the phantom follows."""
     numbers = random.Random(9)
     others, ending = set(), set()
@@ -103,24 +104,30 @@ def trials():
         others.add(stretches(numbers, numbers.choice((2, 4, 40, 400))))
     while len(ending) < 50:
         packet = bytes(numbers.choices((0, 1, FLAG), k=numbers.randrange(2, 13)))
-        if fcs(packet)[-1] == 0:
+        if fcs(packet, width)[-1] == 0:
             ending.add(packet)
     return [packet for _, packet in packets()] + sorted(others) + sorted(ending)
 
 
+def unlike(send, zxe, width, head):
+    """Sends them all, behind this head of a file, and gives what took more or fewer octets than the fewest."""
+    tried = trials(width)
+    records = b"".join(struct.pack(">cHH", b"L", 65535, len(packet)) + packet for packet in tried)
+    line = subprocess.run([send], input=head + records, stdout=subprocess.PIPE, check=True, timeout=60).stdout
+    frames = line.split(bytes([FLAG]))
+    if len(frames) != len(tried) + 1 or frames[-1]:
+        yield f"{len(tried)} packets, but {len(frames) - 1} frames"
+        return
+    for packet, frame in zip(tried, frames):
+        if len(frame) != (least := fewest(packet + fcs(packet, width), zxe)):
+            yield f"{packet.hex()}, ZXE {zxe}, {width} bits: {len(frame)} octets, {least} are enough"
+
+
 def differing(send):
-    """Sends all of them, each with ZXE and without, and gives what took more or fewer octets than the fewest."""
-    tried = trials()
+    """With ZXE and without, and at either width; 16 bits are also what a file without a width has."""
     for zxe in (True, False):
-        records = b"".join(struct.pack(">cHH", b"L", 65535, len(packet)) + packet for packet in tried)
-        line = subprocess.run([send], input=bytes([zxe]) + records, stdout=subprocess.PIPE, check=True, timeout=60).stdout
-        frames = line.split(bytes([FLAG]))
-        if len(frames) != len(tried) + 1 or frames[-1]:
-            yield f"{len(tried)} packets, but {len(frames) - 1} frames"
-            return
-        for packet, frame in zip(tried, frames):
-            if len(frame) != (least := fewest(packet + fcs(packet), zxe)):
-                yield f"{packet.hex()}, ZXE {zxe}: {len(frame)} octets, {least} are enough"
+        for width, said in ((16, b""), (16, b"W\x10"), (32, b"W\x20")):
+            yield from unlike(send, zxe, width, bytes([zxe]) + said)
 
 
 if __name__ == "__main__":

@@ -6,11 +6,11 @@
     tests/captures/NAME.octets      a capture
     tests/captures/NAME.lines       what the capture program prints for it
     tests/captures/NAME.counts      what the count program prints for it
-    tests/scripts/NAME.script       commands for the exercise driver; base has the whole table below
+    tests/scripts/NAME.script       commands for the exercise driver; base and width have the tables below
     tests/scripts/NAME.answers      what the driver writes for them
     crates/count/stdin, stdout      the capture stale-fragment, and its counts
 
-Every entry of the table has, beside its commands, the answers that document 01 asks for, written
+Every entry of a table has, beside its commands, the answers that the documents ask for, written
 down by hand (a text: the answers of calls; a list: every line, with states and areas shown); the
 small scripts likewise. They are held against the model's output before a script is stored.
 --explain prints each entry with its lines. Seeds are fixed: the same files come out each time.
@@ -20,8 +20,9 @@ import random
 import sys
 import tempfile
 
-from compare import (FLAG, HERE, WHOLE_AREAS, Programs, build_model, fcs, fill, hand_receiver, hand_sender, lend,
-                     lend_out, load_high, load_low, next_octets, packet, receive, sent_octets, show, zero_free)
+from compare import (FLAG, HERE, LENT, WHOLE_AREAS, WIDTHS, Programs, build_model, fcs, fill, hand_receiver, hand_sender,
+                     lend, lend_out, load_high, load_low, next_octets, open_receiver, open_sender, packet, receive,
+                     sent_octets, show, zero_free)
 
 
 def hx(text):
@@ -42,7 +43,7 @@ def frames_of(line):
 
 
 def short_line(programs, rng, packets, settings=3):
-    parts = [b"o" + bytes((settings,))]
+    parts = [open_sender(settings)]
     for _ in range(packets):
         parts.append(load_low(packet(rng, rng.choice((2, 3, 4, 9, 30, 31, 60)))) + next_octets(80))
     return sent_by_model(programs, b"".join(parts))
@@ -50,7 +51,7 @@ def short_line(programs, rng, packets, settings=3):
 
 def urgent_line(programs, rng, packets):
     """Low packets broken off by high ones: inside a block, between blocks, straight after D1."""
-    parts = [b"o\x03"]
+    parts = [open_sender(3)]
     for n in range(packets):
         low = packet(rng, rng.choice((8, 40, 210, 400)))
         parts.append(load_low(low))
@@ -135,7 +136,7 @@ def stale_fragment(programs):
 
 def edges(programs):
     rng = random.Random(7)
-    longest = sent_by_model(programs, b"o\x03" + load_low(zero_free(rng, 2048)) + next_octets(2100)
+    longest = sent_by_model(programs, open_sender(3) + load_low(zero_free(rng, 2048)) + next_octets(2100)
                             + load_low(bytes(2048)) + next_octets(2100))
     full = b"\xd0" + b"1" * 207
     return b"".join((
@@ -180,7 +181,7 @@ def check_of_zeros(programs):
     """Packets whose FCS is 00 00: with the phantom three zeros stand at the end of D, and more where the packet ends in zeros."""
     rng = random.Random(9)
     bodies = [b"", b"\x31", bytes(1), b"\x31" + bytes(1), bytes(5)] + [zero_free(rng, n) for n in (27, 28, 29, 30, 203, 204, 205, 206, 300)]
-    parts = [b"o\x03"]
+    parts = [open_sender(3)]
     for body in bodies:
         whole = with_check_of_zeros(body)
         parts.append(load_low(whole) + next_octets(2 * len(whole) + 9))
@@ -190,7 +191,7 @@ def check_of_zeros(programs):
 def every_length(programs):
     """Packets of 2 to 80 octets and of 2,048, in the first area and then, behind a fragment that stays held, in the second."""
     rng = random.Random(10)
-    parts = [b"o\x03"]
+    parts = [open_sender(3)]
     for whole in [packet(rng, n) for n in range(2, 81)] + [b"A" * 2048]:
         parts.append(load_low(whole) + next_octets(2 * len(whole) + 9))
     line = sent_by_model(programs, b"".join(parts))
@@ -226,32 +227,24 @@ CAPTURES = {
 
 
 # ------------------------------------------------------------------------------------------------
-# The script's table
+# The table of the script base, 16 bits
 # ------------------------------------------------------------------------------------------------
 
 D = b"d"
-DEFAULT_LENGTHS = lend((2050, 2050, 2051, 2051))
+DEFAULT_LENGTHS = lend(LENT[16])
 LONG_LENGTHS = lend((20480, 20480, 20480, 20480))
 OUT_AREA = 4
 
 
-def open_sender(settings):
-    return b"o" + bytes((settings,))
-
-
-def open_receiver(settings):
-    return b"O" + bytes((settings,))
-
-
-def sender(settings=3, low=(0, 0), high=(0, 0), left=0, zeros=0, line=0, suspended=0, cut=0):
+def sender(settings=3, low=(0, 0), high=(0, 0), left=0, zeros=0, line=0, suspended=0, cut=0, width=16):
     """A sender state; line 0 none, 1 low, 2 high."""
-    return hand_sender((settings, *low, *high, left, zeros, line, suspended, cut))
+    return hand_sender((settings, *low, *high, left, zeros, line, suspended, cut, width))
 
 
-def receiver(settings=3, work=0, decoded=0, held=None, left=0, zeros=0, last=0, frame=0, resumed=0, refusal=0):
+def receiver(settings=3, work=0, decoded=0, held=None, left=0, zeros=0, last=0, frame=0, resumed=0, refusal=0, width=16):
     """A receiver state; held a count or None; last 0 none, 1 D0, 2 other."""
     return hand_receiver((settings, work, decoded, 0 if held is None else held + 1, left, zeros, last, frame,
-                          resumed, refusal))
+                          resumed, refusal, width))
 
 
 def show_sender(at=0):
@@ -269,8 +262,11 @@ def fill_all():
 
 
 # --- What stands before the first command
+FRESH = ["S 0 0 0 0 0 0 0 0 0 0 16", "T 0 0 0 0 0 0 0 0 0 0 16"]
+
+
 def start():
-    yield "both ends open, settings 0", D, ["S 0 0 0 0 0 0 0 0 0 0", "T 0 0 0 0 0 0 0 0 0 0"]
+    yield "both ends open, settings 0, 16 bits", D, FRESH
     yield ("all areas zeros",
            b"".join(show(area, 0, 3) + show(area, whole - 3, 9) for area, whole in enumerate(WHOLE_AREAS)),
            ["X 00 00 00"] * 10)
@@ -711,17 +707,17 @@ def script_format():
     yield "x of nothing", show(0, 0, 0) + show(4, 40959, 0) + show(0, 65535, 65535), ["X", "X", "X"]
     yield "x, as many as there are", show(0, 20479, 65535) + show(4, 40959, 65535), ["X 70", "X C4"]
     yield ("f of nothing", fill(0, 0, b"") + fill(0, 20480, b"") + fill(9, 0, b"") + show(0, 0, 2), ["X A0 B0"])
-    yield ("numbers too large count as remainders", hand_sender((259, 4, 0, 0, 0, 256, 258, 4, 2, 3))
-           + hand_receiver((515, 2, 5, 65535, 257, 256, 5, 3, 2, 261)) + D,
-           ["S 3 4 0 0 0 0 2 1 0 1", "T 3 0 5 65535 1 0 2 1 0 5"])
-    yield ("numbers as large as they can be", hand_sender((65535,) * 10) + hand_receiver((65535,) * 10) + D,
-           ["S 255 65535 65535 65535 65535 255 255 0 1 1", "T 255 1 65535 65535 255 255 0 1 1 255"])
-    yield ("one below", hand_sender((65534,) * 10) + hand_receiver((65534,) * 10) + D,
-           ["S 254 65534 65534 65534 65534 254 254 2 0 0", "T 254 0 65534 65534 254 254 2 0 0 254"])
+    yield ("numbers too large count as remainders", hand_sender((259, 4, 0, 0, 0, 256, 258, 4, 2, 3, 272))
+           + hand_receiver((515, 2, 5, 65535, 257, 256, 5, 3, 2, 261, 544)) + D,
+           ["S 3 4 0 0 0 0 2 1 0 1 16", "T 3 0 5 65535 1 0 2 1 0 5 32"])
+    yield ("numbers as large as they can be", hand_sender((65535,) * 11) + hand_receiver((65535,) * 11) + D,
+           ["S 255 65535 65535 65535 65535 255 255 0 1 1 255", "T 255 1 65535 65535 255 255 0 1 1 255 255"])
+    yield ("one below", hand_sender((65534,) * 11) + hand_receiver((65534,) * 11) + D,
+           ["S 254 65534 65534 65534 65534 254 254 2 0 0 254", "T 254 0 65534 65534 254 254 2 0 0 254 254"])
     yield ("work area 3 is the second",
-           hand_receiver((3, 3, 0, 0, 0, 0, 0, 0, 0, 0)) + receive(hx("E0 03 47 0F 7E")), "P 1 2 00 00")
+           hand_receiver((3, 3, 0, 0, 0, 0, 0, 0, 0, 0, 16)) + receive(hx("E0 03 47 0F 7E")), "P 1 2 00 00")
     yield ("held 1 is a fragment of no octets",
-           hand_receiver((3, 0, 0, 1, 0, 0, 0, 0, 0, 0)) + receive(hx("05 31 7E")) + D, "H 1 1")
+           hand_receiver((3, 0, 0, 1, 0, 0, 0, 0, 0, 0, 16)) + receive(hx("05 31 7E")) + D, "H 1 1")
     yield "n of none, r of none", next_octets(0) + receive(b""), []
 
 
@@ -758,7 +754,7 @@ def out_area():
            ["D", "O 05", "O 41", "O 42", "O EF", "O 31", "O 7E", "P 0 2 00 00", "X AA BB CC DD 00 00"])
 
 
-GROUPS = [
+BASE = [
     ("the start", start),
     ("document 01's marked frames", marked),
     ("load", loads),
@@ -775,6 +771,316 @@ GROUPS = [
     ("out", out_area),
 ]
 
+
+# ------------------------------------------------------------------------------------------------
+# The table of the script width: document 02, slip 1
+# ------------------------------------------------------------------------------------------------
+
+WIDE_LENGTHS = lend(LENT[32])
+NINE = hx("31 32 33 34 35 36 37 38 39")
+WRONG = (0, 1, 8, 15, 17, 24, 31, 33, 48, 64, 128, 144, 160, 254, 255)
+IN_BLOCK = dict(decoded=1, left=2, zeros=1, **IN_OTHER)
+
+
+def sent(octets):
+    """The lines of octets that are sent."""
+    return [f"O {octet:02X}" for octet in octets]
+
+
+def packet_line(area, data):
+    return f"P {area} {len(data)}" + "".join(f" {octet:02X}" for octet in data)
+
+
+def slip_examples():
+    """The table of examples that goes with the slip's readings, row by row; settings 03 and 32 bits unless said. Only
+    the entries of the check's table are not here: no call gives them."""
+    yield "areas for 32 bits", WIDE_LENGTHS + fill_all(), []
+    for settings, data, line in (
+            (3, NINE, hx("0E") + NINE + hx("26 39 F4 CB 7E")), (3, hx("00 00"), hx("E0 05 FF 12 D9 41 7E")),
+            (0, hx("00 00"), hx("01 01 05 FF 12 D9 41 7E")), (3, hx("7E 7E"), hx("07 00 00 BC 1A D8 47 7E"))):
+        yield (f"packet {data.hex(' ')} sent, settings {settings:02X}", open_sender(settings, 32) + load_low(data)
+               + next_octets(len(line) + 1), ["D", *sent(line), "I"])
+        yield (f"and received, settings {settings:02X}", open_receiver(settings, 32) + receive(line),
+               packet_line(0, data))
+    yield "05 and four 31", open_receiver(3, 32) + receive(hx("05 31 31 31 31 7E")), "R 13"
+    yield "the same, 16 bits", open_receiver(3, 16) + receive(hx("05 31 31 31 31 7E")), "R 14"
+    yield "06 and five 31", open_receiver(3, 32) + receive(hx("06 31 31 31 31 31 7E")), "R 13"
+    yield "07 and six 31", open_receiver(3, 32) + receive(hx("07 31 31 31 31 31 31 7E")), "R 14"
+    yield "DF 136 times, DD", open_receiver(3, 32) + receive(hx("DF") * 136 + hx("DD 7E")), "R 14"
+    yield "DF 136 times, DE", open_receiver(3, 32) + receive(hx("DF") * 136 + hx("DE 7E")), "R 10"
+    for end in (open_sender, open_receiver):
+        yield f"{end.__name__}, 03 with 24 and with 0", end(3, 24) + end(3, 0), "R 3, R 3"
+    yield ("a state with 24, a load of 1 octet, an area of 0",
+           sender(width=24) + lend((0, 0, 0, 0)) + load_low(ONE) + WIDE_LENGTHS, "R 3")
+
+
+def openings():
+    yield ("16 and 32", open_sender(1, 16) + open_receiver(2, 32) + D + open_sender(255, 32) + open_receiver(0, 16) + D,
+           ["S 1 0 0 0 0 0 0 0 0 0 16", "T 2 0 0 0 0 0 0 0 0 0 32",
+            "S 255 0 0 0 0 0 0 0 0 0 32", "T 0 0 0 0 0 0 0 0 0 0 16"])
+    yield ("a refused opening leaves the end as it was", sender(low=(9, 2), high=(6, 0), left=3, zeros=1, line=1, width=32)
+           + receiver(settings=2, work=1, held=7, width=32, **IN_BLOCK) + open_sender(0, 24) + open_receiver(1, 33) + D,
+           ["R 3", "R 3", "S 3 9 2 6 0 3 1 1 0 0 32", "T 2 1 1 8 2 1 2 1 0 0 32"])
+    yield ("a refused opening leaves a state out of bounds too", sender(low=(3, 9), left=255, width=24)
+           + receiver(decoded=9999, refusal=77, width=0) + open_sender(0, 0) + open_receiver(1, 255) + D,
+           ["R 3", "R 3", "S 3 3 9 0 0 255 0 0 0 0 24", "T 3 0 9999 0 0 0 0 0 0 77 0"])
+    yield ("and goes on where it was", open_sender(3, 32) + load_low(hx("7E 7E")) + next_octets(3) + open_sender(0, 8)
+           + next_octets(6) + open_receiver(3, 32) + receive(hx("07 00 00 BC")) + open_receiver(0, 64)
+           + receive(hx("1A D8 47 7E")),
+           ["D", *sent(hx("07 00 00")), "R 3", *sent(hx("BC 1A D8 47 7E")), "I", "R 3", "P 0 2 7E 7E"])
+    yield ("the lengths lent play no part", lend((0, 0, 0, 0)) + open_sender(3, 32) + open_receiver(3, 16) + D
+           + open_sender(3, 17) + open_receiver(3, 15) + WIDE_LENGTHS,
+           ["S 3 0 0 0 0 0 0 0 0 0 32", "T 3 0 0 0 0 0 0 0 0 0 16", "R 3", "R 3"])
+    yield ("an opening ends what was there", sender(low=(9, 2), high=(6, 0), left=3, zeros=1, line=1, width=24)
+           + receiver(work=1, held=7, width=24, **IN_BLOCK) + open_sender(3, 32) + open_receiver(3, 32) + D,
+           ["S 3 0 0 0 0 0 0 0 0 0 32", "T 3 0 0 0 0 0 0 0 0 0 32"])
+    for end in (open_sender, open_receiver):
+        yield (f"every width, {end.__name__}", b"".join(end(0, width) for width in range(256)) + end(0, 16),
+               ["R 3"] * 254)
+
+
+def wrong_widths():
+    """A state with a wrong width is refused 3, whatever else is wrong, and stays as it was."""
+    for width in WRONG:
+        state = f" {width}"
+        yield (f"{width}, fresh", sender(width=width) + load_low(TWO) + load_high(TWO) + next_octets(2)
+               + receiver(width=width) + receive(hx("05 31 7E")) + D,
+               ["R 3"] * 7 + ["S 3" + " 0" * 9 + state, "T 3" + " 0" * 9 + state])
+    for lengths in (LENT[32], LENT[16], (2049, 2049, 2050, 2050), (0, 0, 0, 0), (20480,) * 4):
+        yield (f"24, areas of {lengths[0]} and {lengths[2]}", lend(lengths) + sender(width=24) + load_low(TWO)
+               + load_high(b"") + next_octets(1) + receiver(width=24) + receive(FLAG) + D + show_sender() + show_receiver(),
+               "R 3, R 3, R 3, R 3")
+        yield (f"24, areas of {lengths[0]} and {lengths[2]}, states out of bounds", sender(low=(3, 0), width=24)
+               + load_low(ONE) + next_octets(1) + receiver(decoded=1, width=24) + receive(hx("31")) + D, "R 3, R 3, R 3")
+    yield "areas for 32 bits again", WIDE_LENGTHS, []
+    yield ("numbers of a width count as remainders", sender(low=(6, 0), width=288) + next_octets(1)
+           + receiver(width=65296) + receive(hx("05 31 31 31 31 7E")) + D
+           + sender(low=(5, 0), width=272) + next_octets(1) + receiver(width=65312) + receive(hx("05 31 31 31 31 7E")) + D
+           + sender(width=280) + next_octets(1) + receiver(width=256) + receive(FLAG) + D,
+           ["O 07", "R 14", "S 3 6 0 0 0 6 1 1 0 0 32", "T 3 0 0 0 0 0 0 0 0 0 16",
+            "O 06", "R 13", "S 3 5 0 0 0 5 1 1 0 0 16", "T 3 0 0 0 0 0 0 0 0 0 32",
+            "R 3", "R 3", "S 3 0 0 0 0 0 0 0 0 0 24", "T 3 0 0 0 0 0 0 0 0 0 0"])
+
+
+def wide_areas():
+    for lengths, low, high, after in (
+            (LENT[32], "D", "D", "O 07"), ((2051, 2052, 2053, 2053), "R 2", "D", "R 2"),
+            ((2052, 2051, 2053, 2053), "D", "R 2", "R 2"), (LENT[16], "R 2", "R 2", "R 2"),
+            ((20480, 2051, 0, 0), "D", "R 2", "R 2"), ((2052, 20480, 0, 0), "D", "D", "O 07")):
+        yield (f"32 bits, sender areas of {lengths[0]} and {lengths[1]}", open_sender(3, 32) + lend(lengths)
+               + load_low(TWO) + load_high(TWO) + next_octets(1) + D + show_sender(), f"{low}, {high}, {after}")
+    for lengths, answers in ((LENT[32], "H 1 0"), ((0, 0, 2052, 2053), "R 2, R 2, R 2"),
+                             ((0, 0, 2053, 2052), "R 2, R 2, R 2"), (LENT[16], "R 2, R 2, R 2"),
+                             ((0, 0, 2053, 20480), "H 1 0")):
+        yield (f"32 bits, receiver areas of {lengths[2]} and {lengths[3]}", open_receiver(3, 32) + lend(lengths)
+               + receive(hx("05 31 7E")) + D + show_receiver(), answers)
+    yield ("areas for 16 bits are long enough for 16 bits", lend(LENT[16]) + open_sender(3, 16) + open_receiver(3, 16)
+           + load_low(TWO) + load_high(TWO) + next_octets(1) + receive(hx("05 31 7E")) + D + WIDE_LENGTHS,
+           "D, D, O 05, H 1 0")
+
+
+def wide_loads():
+    longest = b"1" * 2048
+    check = fcs(longest, 32).hex(" ").upper()
+    yield ("F and nothing beyond", open_sender(3, 32) + fill(0, 0, hx("EE") * 12) + load_low(hx("00 00")) + show(0, 0, 8) + D,
+           ["D", "X 00 00 FF 12 D9 41 EE EE", "S 3 6 0 0 0 0 0 0 0 0 32", "T 3 1 0 2 0 0 0 0 0 0 16"])
+    yield ("2,048 octets, area exactly long enough", open_sender(3, 32) + fill(1, 2040, hx("EE") * 20) + load_high(longest)
+           + show(1, 2046, 8) + D,
+           ["D", f"X 31 31 {check} EE EE", "S 3 0 0 2052 0 0 0 0 0 0 32", "T 3 1 0 2 0 0 0 0 0 0 16"])
+    yield ("1: 0, 1 and 2,049 octets", open_sender(3, 32) + load_low(b"") + load_high(ONE) + load_low(b"1" * 2049),
+           "R 1, R 1, R 1")
+    yield "4", open_sender(3, 32) + load_low(TWO) + load_low(TWO) + load_high(TWO) + load_high(TWO), "D, R 4, D, R 4"
+
+
+def wide_orders():
+    """3 by the width, 2, 3 by the rest, 4, 1."""
+    short = lend((2051, 2051, 2052, 2052))
+    holds = sender(low=(6, 0), high=(6, 0), width=32)
+    yield "3 by the width before 2", short + sender(width=24) + load_low(TWO) + next_octets(1), "R 3, R 3"
+    yield "3 by the width before 2, receiver", receiver(width=24) + receive(FLAG), "R 3"
+    yield "2 before 3", sender(low=(5, 0), width=32) + load_low(TWO) + load_high(TWO) + next_octets(1), "R 2, R 2, R 2"
+    yield "2 before 3, receiver", receiver(decoded=1, width=32) + receive(FLAG), "R 2"
+    yield "2 before 4 and 1", holds + load_low(TWO) + load_high(ONE), "R 2, R 2"
+    yield "3 before 4 and 1", WIDE_LENGTHS + sender(low=(5, 0), width=32) + load_low(ONE) + load_high(b""), "R 3, R 3"
+    yield "4 before 1", holds + load_low(ONE) + load_high(b"1" * 2049), "R 4, R 4"
+
+
+def by_width():
+    """States that are in bounds at one width and not at the other: commands, and which widths take them."""
+    for length in (3, 4, 5, 6, 7, 2049, 2050, 2051, 2052, 2053):
+        takes = [width for width in WIDTHS if 2 + width // 8 <= length <= 2048 + width // 8]
+        for name in ("low", "high"):
+            yield f"{name} length {length}", "s", {name: (length, 0)}, takes
+            yield f"{name} length {length}, position one more", "s", {name: (length, length + 1)}, takes
+            yield f"{name} length {length}, position two more", "s", {name: (length, length + 2)}, []
+    for count in (2050, 2051, 2052, 2053, 2054):
+        takes = [width for width in WIDTHS if count <= 2049 + width // 8]
+        yield f"decoded {count}", "t", dict(decoded=count, **IN_OTHER), takes
+        yield f"decoded {count}, refused 10", "t", dict(decoded=count, frame=1, refusal=10), takes
+        yield f"held {count}", "t", dict(held=count), takes
+        yield f"held {count} in a frame", "t", dict(held=count, **IN_BLOCK), takes
+
+
+def wide_bounds():
+    for name, end, state, takes in by_width():
+        for width in WIDTHS:
+            hand = (sender if end == "s" else receiver)(width=width, **state)
+            calls = [load_low(TWO), load_high(TWO), next_octets(1)] if end == "s" else [receive(hx("31")), receive(FLAG)]
+            yield (f"{name}, {width} bits", b"".join(hand + call + D for call in calls),
+                   "no R 3" if width in takes else ", ".join(["R 3"] * len(calls)))
+    for state, words in ((dict(left=208), "208 left"), (dict(zeros=3), "3 zeros due"), (dict(line=2), "high on the line")):
+        yield (f"{words}, 32 bits", sender(**{"low": (300, 0), "left": 1, "line": 1, "width": 32, **state}) + next_octets(1),
+               "R 3")
+    for state, words in ((dict(left=208), "208 left"), (dict(zeros=3), "3 zeros due"), (dict(refusal=11), "refusal 11"),
+                         (dict(frame=0), "out of a frame"), (dict(left=0, decoded=0), "nothing decoded")):
+        yield (f"{words}, 32 bits, receiver", receiver(**{**IN_BLOCK, "width": 32, **state}) + receive(FLAG), "R 3")
+
+
+def wide_limits():
+    """Refusals 10 and 13."""
+    for width, most in ((16, 2051), (32, 2053)):
+        before = lend(LENT[width]) + fill(2, 2040, hx("EE") * 20)
+        shown = show(2, most - 3, 6)
+        yield (f"10, {width} bits: a data octet beyond {most}", before
+               + receiver(decoded=most, left=2, zeros=1, width=width, **IN_OTHER) + receive(hx("31")) + shown + receive(FLAG),
+               ["X EE EE EE EE EE EE", "R 10"])
+        yield (f"10, {width} bits: the last data octet fits, its zero does not", before
+               + receiver(decoded=most - 1, left=1, zeros=1, width=width, **IN_OTHER) + receive(hx("31")) + shown
+               + receive(FLAG), ["X EE EE 31 EE EE EE", "R 10"])
+        yield (f"10, {width} bits: two zeros together", before
+               + receiver(decoded=most - 1, width=width, **IN_OTHER) + receive(hx("E0")) + shown + receive(FLAG),
+               ["X EE EE EE EE EE EE", "R 10"])
+        yield (f"not 10, {width} bits: two zeros up to {most}", before
+               + receiver(decoded=most - 2, width=width, **IN_OTHER) + receive(hx("E0")) + shown + receive(FLAG),
+               ["X EE 00 00 EE EE EE", "R 14"])
+        yield (f"10, {width} bits: D1 onto {most}", receiver(held=most, width=width) + receive(hx("D1 01 7E")), "R 10")
+        yield (f"not 10, {width} bits: D1 onto {most - 1}", receiver(held=most - 1, width=width) + receive(hx("D1 01 7E")),
+               "R 14")
+        for run in range(0xD9, 0xE0):
+            yield (f"DF 136 times and {run:02X}, {width} bits", open_receiver(3, width)
+                   + receive(hx("DF") * 136 + bytes((run,)) + FLAG), "R 10" if 2040 + run - 0xD0 > most else "R 14")
+    yield "areas for 32 bits once more", WIDE_LENGTHS, []
+    for width in WIDTHS:
+        for count in range(9):
+            yield (f"{count} octets, {width} bits", open_receiver(3, width) + receive(bytes((count + 1,)) + b"1" * count + FLAG),
+                   "R 13" if count < 2 + width // 8 else "R 14")
+            whole = b"A" * count + fcs(b"A" * count, width)
+            yield (f"{count} octets and their FCS, {width} bits", fill(3, 0, whole + b"\0")
+                   + receiver(work=1, decoded=len(whole) + 1, width=width, **IN_OTHER) + receive(FLAG),
+                   packet_line(1, b"A" * count) if count >= 2 else "R 13")
+
+
+def other_width():
+    """Frames that were sent with the other width."""
+    for data in (NINE, hx("00 00"), hx("41 42"), b"1" * 100):
+        whole = {width: data.replace(b"\0", b"") + fcs(data, width) for width in WIDTHS}
+        assert 0 not in whole[16] + whole[32] and FLAG[0] not in whole[16] + whole[32]
+        for width, refused in ((16, "R 13" if len(data) == 2 else "R 14"), (32, "R 14")):
+            zeros = b"\xe0" * (0 in data)
+            line = zeros + bytes((len(whole[width]) + 1,)) + whole[width] + FLAG
+            yield (f"{data[:9].hex(' ')}, {width} bits, to both", open_receiver(3, 16) + receive(line)
+                   + open_receiver(3, 32) + receive(line),
+                   ", ".join([packet_line(0, data), refused][::1 if width == 16 else -1]))
+
+
+def with_check(data, width, check):
+    """The octets and as many more as the FCS has, so that it is this one: the register is stepped back from there."""
+    polynomial, register = {16: 0x8408, 32: 0xEDB88320}[width], int.from_bytes(check, "little") ^ 2 ** width - 1
+    for _ in range(width):
+        high = register >> width - 1
+        register = ((register ^ polynomial * high) << 1 | high) % 2 ** width
+    before = int.from_bytes(fcs(data, width), "little") ^ 2 ** width - 1
+    data += (register ^ before).to_bytes(width // 8, "little")
+    assert fcs(data, width) == check
+    return data
+
+
+def wide_checks():
+    """FCSs with zeros and 7E in them."""
+    zeros = with_check(b"1", 32, bytes(4))
+    flags = with_check(b"12", 32, FLAG * 4)
+    ends = with_check(b"123", 32, hx("41 00 00 42"))
+    assert 0 not in zeros + flags + ends[:7] and FLAG[0] not in zeros + flags[:6] + ends
+    for name, data, line in (
+            ("four zeros and the phantom", zeros, hx("E5") + zeros + hx("D3 7E")),
+            ("four 7E", flags, hx("0B") + flags + hx("00 00 00 00 7E")),
+            ("two zeros inside", ends, hx("E8") + ends + hx("41 02 42 7E"))):
+        yield (f"{name}: sent", open_sender(3, 32) + load_low(data) + next_octets(len(line) + 1), ["D", *sent(line), "I"])
+        yield (f"{name}: received", open_receiver(3, 32) + receive(line), packet_line(0, data))
+    whole = NINE + hx("26 39 F4 CB")
+    damaged = [bytes(octet ^ (1 << bit % 8) * (at == bit // 8) for at, octet in enumerate(whole)) for bit in range(8 * len(whole))]
+    damaged = [octets for octets in damaged if 0 not in octets and FLAG[0] not in octets]
+    yield ("a bit is wrong, at each place", open_receiver(3, 32) + b"".join(receive(hx("0E") + octets + FLAG) for octets in damaged),
+           ", ".join(["R 14"] * len(damaged)))
+    yield "the FCS high octet first", open_receiver(3, 32) + receive(hx("0E") + NINE + hx("CB F4 39 26 7E")), "R 14"
+    yield "the FCS not complemented", open_receiver(3, 32) + receive(hx("0E") + NINE + hx("D9 C6 0B 34 7E")), "R 14"
+
+
+def wide_delivery():
+    """Both ends, 32 bits. 41 42 43 is broken off after 41 by 44 45, and resumed."""
+    low, high = hx("41 42 43") + fcs(hx("41 42 43"), 32), hx("44 45") + fcs(hx("44 45"), 32)
+    assert 0 not in low + high and FLAG[0] not in low + high
+    urgent, rest = hx("07") + high + FLAG, hx("D1 07") + low[1:] + FLAG
+    idle = "S 3 0 0 0 0 0 0 0 0 0 32"
+    yield ("sent", open_sender(3, 32) + open_receiver(3, 32) + load_low(hx("41 42 43")) + next_octets(2) + D
+           + load_high(hx("44 45")) + next_octets(1) + D + next_octets(len(urgent + rest) + 1),
+           ["D", "O 08", "O 41", "S 3 7 1 0 0 6 1 1 0 0 32", "T 3 0 0 0 0 0 0 0 0 0 32",
+            "D", "O 7E", "S 3 7 1 6 0 0 0 0 1 0 32", "T 3 0 0 0 0 0 0 0 0 0 32", *sent(urgent + rest), "I"])
+    yield ("received", receive(hx("08 41 7E")) + D + receive(urgent) + D + receive(rest[:-1]) + D + receive(FLAG) + D,
+           ["H 1 0", idle, "T 3 1 0 2 0 0 0 0 0 0 32", "P 1 2 44 45", idle, "T 3 1 0 2 0 0 0 0 0 0 32",
+            idle, "T 3 0 8 0 0 0 2 1 1 0 32", "P 0 3 41 42 43", idle, "T 3 0 0 0 0 0 0 0 0 0 32"])
+    between = hx("D3 02 7E") + urgent + hx("D1 02 7E") + urgent + hx("D1")
+    tail = hx("31 32") + fcs(hx("00 00 00 31 32"), 32)
+    assert 0 not in tail and FLAG[0] not in tail
+    tail = hx("07") + tail + FLAG
+    yield ("broken off between blocks, and straight after D1", open_sender(3, 32) + load_low(hx("00 00 00 31 32"))
+           + next_octets(1) + load_high(hx("44 45")) + next_octets(2 + len(urgent) + 1) + load_high(hx("44 45"))
+           + next_octets(2 + len(urgent) + 1 + len(tail) + 1),
+           ["D", "O D3", "D", *sent(between[1:4 + len(urgent)]), "D", *sent(between[4 + len(urgent):] + tail), "I"])
+    yield "and received", receive(between + tail), "H 3 0, P 1 2 44 45, H 3 0, P 1 2 44 45, P 0 5 00 00 00 31 32"
+    yield ("a stale fragment: 14", open_receiver(3, 32) + receive(hx("08 42 7E") + urgent + rest), "H 1 0, P 1 2 44 45, R 14")
+    yield ("without PRE nothing is broken off", open_sender(1, 32) + load_low(hx("41 42 43")) + next_octets(2)
+           + load_high(hx("44 45")) + next_octets(len(low + urgent) + 1),
+           ["D", "O 08", "O 41", "D", *sent(low[1:] + FLAG + urgent), "I"])
+    longest = b"A" * 2048
+    whole = (hx("D0") + b"A" * 207) * 9 + hx("BE") + b"A" * 185 + fcs(longest, 32) + FLAG
+    assert 0 not in whole and whole.count(FLAG) == 1
+    yield ("the longest packet sent", open_sender(3, 32) + load_low(longest) + next_octets(len(whole) + 1),
+           ["D", *sent(whole), "I"])
+    yield ("and received, in either area", open_receiver(3, 32) + receive(whole) + receive(hx("05 31 7E")) + receive(whole),
+           f"{packet_line(0, longest)}, H 1 0, {packet_line(1, longest)}")
+    last = hx("02") + whole[-2:]
+    yield ("the longest packet, all but its last octet held", open_receiver(3, 32)
+           + receive(whole[:-2] + FLAG + urgent + hx("D1") + last) + D,
+           ["H 2051 0", "P 1 2 44 45", packet_line(0, longest), "S 3 0 0 0 0 0 0 0 0 0 32", "T 3 0 0 0 0 0 0 0 0 0 32"])
+
+
+def wide_settings():
+    """The settings are read at 32 bits as at 16; no report changes the width."""
+    for settings in (0, 1, 2, 3, 0xFC, 0xFF):
+        zxe, pre = settings & 1, settings & 2
+        yield (f"settings {settings:02X}", open_receiver(settings, 32)
+               + receive(hx("D7 7E D1 01 7E 05 31 7E D2 7E FF 7E 01 7E")) + D,
+               [f"R {14 if zxe else 6}", f"R {8 if pre else 6}", "H 1 0" if pre else "R 11", "R 7", "R 5", "R 13",
+                "S 3 0 0 0 0 0 0 0 0 0 32", f"T {settings} {1 if pre else 0} 0 {2 if pre else 0} 0 0 0 0 0 0 32"])
+
+
+WIDTH_TABLE = [
+    ("slip 1's examples", slip_examples),
+    ("opening", openings),
+    ("wrong widths", wrong_widths),
+    ("lent areas", wide_areas),
+    ("load", wide_loads),
+    ("order of the call refusals", wide_orders),
+    ("in bounds", wide_bounds),
+    ("10 and 13", wide_limits),
+    ("the other width", other_width),
+    ("check sequences", wide_checks),
+    ("both ends", wide_delivery),
+    ("settings", wide_settings),
+]
+
+
 # --- Small scripts: commands, and every line that they give. A script ends at `E`, so each such case has its own.
 LONG = 65535
 EXAMPLE = open_sender(3) + load_low(hx("00 00")) + next_octets(6)
@@ -787,13 +1093,13 @@ SCRIPTS = {
         open_sender(3) + load_low(hx("41 42 43")) + next_octets(2) + D + load_high(hx("44 45")) + next_octets(1) + D
         + next_octets(14) + open_receiver(3) + receive(hx("06 41 7E")) + D + receive(hx("05 44 45 E8 3B 7E")) + D
         + receive(hx("D1 05 42 43 2F 9F")) + D + receive(FLAG) + D,
-        ["D", "O 06", "O 41", "S 3 5 1 0 0 4 1 1 0 0", "T 0 0 0 0 0 0 0 0 0 0",
-         "D", "O 7E", "S 3 5 1 4 0 0 0 0 1 0", "T 0 0 0 0 0 0 0 0 0 0",
+        ["D", "O 06", "O 41", "S 3 5 1 0 0 4 1 1 0 0 16", "T 0 0 0 0 0 0 0 0 0 0 16",
+         "D", "O 7E", "S 3 5 1 4 0 0 0 0 1 0 16", "T 0 0 0 0 0 0 0 0 0 0 16",
          "O 05", "O 44", "O 45", "O E8", "O 3B", "O 7E", "O D1", "O 05", "O 42", "O 43", "O 2F", "O 9F", "O 7E", "I",
-         "H 1 0", "S 3 0 0 0 0 0 0 0 0 0", "T 3 1 0 2 0 0 0 0 0 0",
-         "P 1 2 44 45", "S 3 0 0 0 0 0 0 0 0 0", "T 3 1 0 2 0 0 0 0 0 0",
-         "S 3 0 0 0 0 0 0 0 0 0", "T 3 0 6 0 0 0 2 1 1 0",
-         "P 0 3 41 42 43", "S 3 0 0 0 0 0 0 0 0 0", "T 3 0 0 0 0 0 0 0 0 0"]),
+         "H 1 0", "S 3 0 0 0 0 0 0 0 0 0 16", "T 3 1 0 2 0 0 0 0 0 0 16",
+         "P 1 2 44 45", "S 3 0 0 0 0 0 0 0 0 0 16", "T 3 1 0 2 0 0 0 0 0 0 16",
+         "S 3 0 0 0 0 0 0 0 0 0 16", "T 3 0 6 0 0 0 2 1 1 0 16",
+         "P 0 3 41 42 43", "S 3 0 0 0 0 0 0 0 0 0 16", "T 3 0 0 0 0 0 0 0 0 0 16"]),
     # The operands of an unknown command are not known either: nothing behind it is carried out.
     "unknown": (EXAMPLE + b"?" + D, ["D", "O E0", "O 03", "O 47", "O 0F", "O 7E", "I", "E"]),
     "unknown-octet": (b"\x80", ["E"]),
@@ -801,16 +1107,18 @@ SCRIPTS = {
     "cut-number": (open_sender(3) + load_low(TWO) + next_octets(1) + b"n\x05", ["D", "O 05", "E"]),
     "cut-packet": (open_sender(3) + load_low(hx("41 42 43"))[:-1], ["E"]),
     "cut-line": (open_receiver(3) + receive(hx("05 31 7E 7E"))[:-1], ["E"]),
-    "cut-state": (hand_sender((3,) * 10)[:-1], ["E"]),
+    "cut-opening": (open_sender(3, 32) + D + open_sender(3, 32)[:-1],
+                    ["S 3 0 0 0 0 0 0 0 0 0 32", "T 0 0 0 0 0 0 0 0 0 0 16", "E"]),
+    "cut-state": (hand_sender((3,) * 11)[:-1], ["E"]),
     "cut-show": (show(0, 0, 1)[:-1], ["E"]),
-    "cut-letter": (D + b"A", ["S 0 0 0 0 0 0 0 0 0 0", "T 0 0 0 0 0 0 0 0 0 0", "E"]),
+    "cut-letter": (D + b"A", [*FRESH, "E"]),
     # Counts as large as they can be.
     "long-operands": (
         lend((LONG,) * 4) + lend_out(LONG) + fill(0, 0, hx("A5") * LONG) + show(0, 20478, LONG) + show(1, 0, 2)
         + load_low(hx("31") * LONG) + D + open_receiver(3) + receive(hx("D3 7E") + FLAG * (LONG - 4) + hx("D2 7E")) + D
         + next_octets(LONG) + show(OUT_AREA, 0, 3) + show(OUT_AREA, 40958, LONG),
-        ["X A5 A5", "X 00 00", "R 1", "S 0 0 0 0 0 0 0 0 0 0", "T 0 0 0 0 0 0 0 0 0 0", "R 13", "R 7",
-         "S 0 0 0 0 0 0 0 0 0 0", "T 3 0 0 0 0 0 0 0 0 0", *["I"] * LONG, "X 00 00 00", "X 00 00"]),
+        ["X A5 A5", "X 00 00", "R 1", *FRESH, "R 13", "R 7", FRESH[0], "T 3 0 0 0 0 0 0 0 0 0 16", *["I"] * LONG,
+         "X 00 00 00", "X 00 00"]),
 }
 
 
@@ -847,9 +1155,9 @@ def write_captures(programs, folder):
         print(f"capture {name}: {len(data)} octets; {seen or 'no report'}")
 
 
-def base_script(programs, explain):
-    """All of the table in one script; and how many of its entries are answered otherwise than asked."""
-    entries = [(f"{group}: {name}", commands, asked) for group, table in GROUPS for name, commands, asked in table()]
+def table_script(programs, label, groups, explain):
+    """All of a table in one script; and how many of its entries are answered otherwise than asked."""
+    entries = [(f"{group}: {name}", commands, asked) for group, table in groups for name, commands, asked in table()]
     script, before, wrong = b"", 0, 0
     for name, commands, asked in entries:
         script += commands
@@ -857,18 +1165,20 @@ def base_script(programs, explain):
         own = lines[before:]
         good = as_asked(asked, own)
         wrong += not good
-        print(f"script {name}" + ("" if good else f"\n  ASKED {asked}\n  MODEL {own}"))
+        print(f"script {label}: {name}" + ("" if good else f"\n  ASKED {asked}\n  MODEL {own}"))
         if explain:
             for number, line in enumerate(own, before + 1):
                 print(f"    {number}: {line[:120]}")
         before = len(lines)
-    print(f"base: {len(entries)} entries")
+    print(f"{label}: {len(entries)} entries")
     return script, wrong
 
 
 def write_scripts(programs, folder, explain):
-    base, wrong = base_script(programs, explain)
-    scripts = {"base": base}
+    scripts, wrong = {}, 0
+    for name, groups in (("base", BASE), ("width", WIDTH_TABLE)):
+        scripts[name], faults = table_script(programs, name, groups, explain)
+        wrong += faults
     for name, (commands, asked) in SCRIPTS.items():
         scripts[name] = commands
         lines = programs.of_model("exercise", commands).decode().splitlines()

@@ -1,8 +1,9 @@
-"""Document 01's worked examples, held against model.rs: python3 worked.py MODEL"""
+"""The worked examples of document 01, and examples of slip 1 of document 02, held against model.rs: python3 worked.py MODEL"""
 import subprocess
 import sys
+import zlib
 
-from compare import fcs
+from compare import LENT, fcs, lend, open_receiver, open_sender
 
 MODEL = sys.argv[1]
 
@@ -36,9 +37,9 @@ def check(name, got, want):
         print("  want", repr(want)[:300])
 
 
-def sent(settings, packet, calls=None):
+def sent(settings, packet, width=16):
     """What a sender opened with these settings sends for one low packet, as a hexadecimal text."""
-    out = run("exercise", b"o" + bytes([settings]) + b"l" + octs(packet) + b"n" + num(calls or 2300))
+    out = run("exercise", lend(LENT[width]) + open_sender(settings, width) + b"l" + octs(packet) + b"n" + num(2300))
     lines = out.splitlines()
     assert lines[0] == "D", lines[0]
     octets = [line[2:] for line in lines[1:] if line[0] == "O"]
@@ -46,12 +47,25 @@ def sent(settings, packet, calls=None):
     return " ".join(octets)
 
 
-def received(settings, octets):
-    return run("exercise", b"O" + bytes([settings]) + b"r" + octs(octets)).splitlines()
+def received(settings, octets, width=16):
+    return run("exercise", lend(LENT[width]) + open_receiver(settings, width) + b"r" + octs(octets)).splitlines()
 
 
 # Check sequence
 check("FCS of 123456789 is 906E", fcs(b"123456789"), hx("6E90"))
+check("FCS of 123456789 is CBF43926 with 32 bits", fcs(b"123456789", 32), hx("26 39 F4 CB"))
+check("32 bits, as Python's own CRC", [fcs(bytes(range(n, 256)), 32) for n in range(256)],
+      [zlib.crc32(bytes(range(n, 256))).to_bytes(4, "little") for n in range(256)])
+check("EDB88320 has RFC 1662's exponents (C.3), 0 highest",
+      sum(1 << 31 - n for n in (0, 1, 2, 4, 5, 7, 8, 10, 11, 12, 16, 22, 23, 26)), 0xEDB88320)
+
+
+def register(octets, width):
+    """The register over octets, undone from their FCS."""
+    return int.from_bytes(fcs(octets, width), "little") ^ 2 ** width - 1
+
+
+check("good ends, 16 and 32 bits", [register(b"any" + fcs(b"any", width), width) for width in (16, 32)], [0xF0B8, 0xDEBB20E3])
 
 # Marked frames
 check("(a)", sent(3, hx("0000")), "E0 03 47 0F 7E")
@@ -76,11 +90,11 @@ check("1", run("exercise", b"l" + octs(hx("31"))), "R 1\n")
 check("1, 2049", run("exercise", b"l" + octs(b"1" * 2049)), "R 1\n")
 check("2048 is loaded", run("exercise", b"l" + octs(b"1" * 2048)), "D\n")
 check("2", run("exercise", b"a" + num(2050) + num(2050) + num(2050) + num(2051) + b"r" + octs(hx("7E"))), "R 2\n")
-check("3", run("exercise", b"s" + num(0) + num(300) + num(0) * 3 + num(208) + num(0) + num(1) + num(0) * 2
+check("3", run("exercise", b"s" + num(0) + num(300) + num(0) * 3 + num(208) + num(0) + num(1) + num(0) * 2 + num(16)
                + b"n" + num(1)), "R 3\n")
 check("3, 207 is none", run("exercise", b"s" + num(0) + num(300) + num(0) * 3 + num(207) + num(0) + num(1)
-                            + num(0) * 2 + b"n" + num(1)), "O 00\n")
-check("3, receiver", run("exercise", b"t" + num(0) * 4 + num(208) + num(0) + num(2) + num(1) + num(0) * 2
+                            + num(0) * 2 + num(16) + b"n" + num(1)), "O 00\n")
+check("3, receiver", run("exercise", b"t" + num(0) * 4 + num(208) + num(0) + num(2) + num(1) + num(0) * 2 + num(16)
                          + b"r" + octs(hx("31"))), "R 3\n")
 check("4", run("exercise", (b"l" + octs(hx("3132"))) * 2), "D\nR 4\n")
 for number, settings, octets in [
@@ -93,24 +107,61 @@ check("9", received(3, hx("05 31 7E D1 7E")), ["H 1 0", "R 9"])
 check("01 7E is 13", received(3, hx("01 7E")), ["R 13"])
 
 # docs/EXERCISE.md's example
-check("EXERCISE.md", run("exercise", b"o\3" + b"l" + hx("02 00 00 00") + b"n" + hx("06 00")),
+check("EXERCISE.md", run("exercise", b"o" + hx("03 10") + b"l" + hx("02 00 00 00") + b"n" + hx("06 00")),
       "D\nO E0\nO 03\nO 47\nO 0F\nO 7E\nI\n")
 
+# Slip 1, 32 bits
+check("slip 1: 31 to 39", sent(3, b"123456789", 32), "0E 31 32 33 34 35 36 37 38 39 26 39 F4 CB 7E")
+check("slip 1: 00 00", sent(3, hx("0000"), 32), "E0 05 FF 12 D9 41 7E")
+check("slip 1: 00 00, settings 00", sent(0, hx("0000"), 32), "01 01 05 FF 12 D9 41 7E")
+check("slip 1: 7E 7E", sent(3, hx("7E7E"), 32), "07 00 00 BC 1A D8 47 7E")
+for width, octets, report in (
+    (32, hx("05") + b"1" * 4, "R 13"), (16, hx("05") + b"1" * 4, "R 14"), (32, hx("06") + b"1" * 5, "R 13"),
+    (32, hx("07") + b"1" * 6, "R 14"), (32, hx("DF") * 136 + hx("DD"), "R 14"), (32, hx("DF") * 136 + hx("DE"), "R 10"),
+):
+    check(f"slip 1: {octets[-7:].hex(' ')} 7E, {width} bits", received(3, octets + hx("7E"), width), [report])
+for opens, end in ((open_sender, "sender"), (open_receiver, "receiver")):
+    check(f"slip 1: {end} opened with 24, and with 0", run("exercise", opens(3, 24) + opens(3, 0)), "R 3\nR 3\n")
+check("slip 1: width 24, a load of 1, an area of 0",
+      run("exercise", b"a" + num(0) * 4 + b"s" + num(0) * 10 + num(24) + b"l" + octs(hx("31"))), "R 3\n")
+
+
+def entry(place):
+    """An entry of the model's 32-bit table, by the FCS of a packet whose second octet looks it up."""
+    before = register(b"1", 32)
+    packet = bytes((0x31, before & 0xFF ^ place))
+    out = run("exercise", lend(LENT[32]) + open_sender(3, 32) + b"l" + octs(packet) + b"x\0" + num(2) + num(4))
+    return int.from_bytes(bytes.fromhex(out.split("X")[1]), "little") ^ 0xFFFFFFFF ^ before >> 8
+
+
+def by_rule(place):
+    for _ in range(8):
+        place = place >> 1 ^ (0xEDB88320 if place & 1 else 0)
+    return place
+
+
+check("slip 1: table entries", [entry(place) for place in (1, 15, 20, 128, 255)],
+      [0x77073096, 0x90BF1D91, 0x1ADAD47D, 0xEDB88320, 0x2D02EF8D])
+check("slip 1: all entries by the rule", [entry(place) for place in range(256)], [by_rule(place) for place in range(256)])
+check("slip 1: captures keep 16 bits", run("capture", hx("0E") + b"123456789" + hx("26 39 F4 CB 7E 05 31 31 31 31 7E")),
+      "R 14\nR 14\n")
+
 # Length bound: n + 1 + floor(n / 207) octets before the flag
-for length in (2, 203, 204, 205, 206, 410, 411, 412, 2046, 2047, 2048):
-    for settings in range(4):
-        for octets in (b"1" * length, bytes(length), (hx("00") + b"1" * 206) * 10):
-            text = sent(settings, octets[:length]).split()
-            n = length + 2
-            if len(text) - 1 > n + 1 + n // 207:
-                check(f"bound {length} {settings}", len(text) - 1, n + 1 + n // 207)
-            back = received(settings, bytes.fromhex("".join(text)))
-            if back != [f"P 0 {length}" + "".join(f" {o:02X}" for o in octets[:length])]:
-                check(f"way back {length} {settings}", back, "the packet")
+for width in (16, 32):
+    for length in (2, 201, 202, 203, 204, 205, 206, 410, 411, 412, 2046, 2047, 2048):
+        for settings in range(4):
+            for octets in (b"1" * length, bytes(length), (hx("00") + b"1" * 206) * 10):
+                text = sent(settings, octets[:length], width).split()
+                n = length + width // 8
+                if len(text) - 1 > n + 1 + n // 207:
+                    check(f"bound {length} {settings} {width}", len(text) - 1, n + 1 + n // 207)
+                back = received(settings, bytes.fromhex("".join(text)), width)
+                if back != [f"P 0 {length}" + "".join(f" {o:02X}" for o in octets[:length])]:
+                    check(f"way back {length} {settings} {width}", back, "the packet")
 print("bounds and ways back done")
 
 # A cut between blocks, and one straight after D1
-out = run("exercise", b"o\3" + b"l" + octs(hx("00 00 00 31 32 33 34 35")) + b"n" + num(1) + b"h" + octs(hx("4142"))
+out = run("exercise", open_sender(3) + b"l" + octs(hx("00 00 00 31 32 33 34 35")) + b"n" + num(1) + b"h" + octs(hx("4142"))
           + b"n" + num(2 + 6 + 1) + b"h" + octs(hx("4344")) + b"n" + num(2 + 6) + b"n" + num(11))
 octets = bytes.fromhex("".join(line[2:] for line in out.splitlines() if line[0] == "O"))
 check("cut between blocks, and after D1", run("capture", octets), "H 3 0\nP 2 41 42\nH 3 0\nP 2 43 44\nP 8 00 00 00 31 32 33 34 35\n")

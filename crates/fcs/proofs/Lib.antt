@@ -4,5 +4,8 @@ mod Steps
 mod Same
 mod Table
 mod Linear
-mod Words
+mod Octets
+mod Fold
+mod Words16
+mod Words32
 pub mod Laws

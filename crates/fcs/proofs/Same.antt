@@ -11,7 +11,7 @@ unfoldable pub same : ℕ → (ℕ → ℕ) → (ℕ → ℕ) → Bool
 same zero f g = true
 same (suc n) f g = eqb (f n) (g n) && same n f g
 
-both : (a b : Bool) → T (a && b) → T a × T b
+pub both : (a b : Bool) → T (a && b) → T a × T b
 both true true t = (tt, tt)
 both true false t = absurd t
 both false b t = absurd t

@@ -1,7 +1,7 @@
 -- The bit steps of a check of any width: they are linear in ⊕, and keep to the width.
 use mathlib.Core.Path.{_≡_, refl}
 use Prim.Native.Nat.{ℕ, zero, suc, _+_, _*_, _/_, _%_, _^_, _≤_, _<_}
-use native.Mathlib.Nat.{zero-mul, one-mul, add-zero, add-suc, pow-suc, lt-of-lt-of-le}
+use native.Mathlib.Nat.{zero-mul, one-mul, add-zero, add-suc, add-comm, pow-suc, lt-of-lt-of-le}
 use native.Mathlib.Omega.{arith}
 use lib.Bits.{shifted-half, shifted-even}
 use lib.Dec.{eqb}
@@ -32,7 +32,7 @@ module _ (k : Check) where
   bit-shifted : (n a : ℕ) → bitStep k (a * 2 ^ suc n) ≡ a * 2 ^ n
   bit-shifted n a = rw (by-product, shifted-half, shifted-even, zero-mul, xor.zero-right)
 
-  shifted : (n a : ℕ) → bitSteps k n (a * 2 ^ n) ≡ a
+  pub shifted : (n a : ℕ) → bitSteps k n (a * 2 ^ n) ≡ a
   unfolding bitSteps
   shifted zero a = omega arith
   shifted (suc n) a = rw bit-shifted (shifted n a)
@@ -44,6 +44,9 @@ module _ (k : Check) where
   unfolding bitSteps
   steps-add m zero a = rw add-zero
   steps-add m (suc n) a = rw add-suc (steps-add m n (bitStep k a))
+
+  pub steps-comm : (m n a : ℕ) → bitSteps k m (bitSteps k n a) ≡ bitSteps k n (bitSteps k m a)
+  steps-comm m n a = rw (← steps-add m n a, ← steps-add n m a, add-comm m n)
 
   -- what is moved up by n bits waits for n steps
   pub moved-up : (m n a : ℕ) → bitSteps k (m + n) (a * 2 ^ n) ≡ bitSteps k m a

@@ -1,6 +1,6 @@
 -- The calls on octets and the calls on states.
 use mathlib.Core.Path.{_≡_, refl, sym, ap, subst, _∙_}
-use mathlib.Core.Bool.{Bool, true, false, _||_}
+use mathlib.Core.Bool.{Bool, true, false, not, _||_}
 use mathlib.Core.List.{List, [], _∷_, _++_, map}
 use Prim.Native.Nat.{ℕ, _-_, _<_}
 use native.Mathlib.Omega.{arith}
@@ -10,7 +10,10 @@ use lib.ListN.{length, drop}
 use lib.Seq.{take-append-seam, drop-append-seam}
 use Rattle.fcs.specs.Notation.{if_then_else_}
 use Rattle.cobs.proofs.Tests.{branch, decide, true-false, false-true}
-use Rattle.link.specs.Agreed.{agreed, largestFrame, mostDecoded}
+use Rattle.link.specs.declared.Settings.{Settings}
+use Rattle.link.specs.declared.sender.Opening.{Opening as SenderOpening}
+use Rattle.link.specs.declared.receiver.Opening.{Opening as ReceiverOpening}
+use Rattle.link.specs.Agreed.{agreed, valid}
 use Rattle.link.specs.Answers.{Answer, done, octet, idle, quiet, packet, held, refused, isQuiet}
 use Rattle.link.specs.declared.sender.Lane.{Lane}
 use Rattle.link.specs.declared.sender.Lane.the-variants.{Low as low, High as high}
@@ -18,14 +21,14 @@ use Rattle.link.specs.declared.sender.Sender.{Sender}
 use Rattle.link.specs.declared.receiver.Receiver.{Receiver}
 use Rattle.link.specs.Sender.{SenderEnd, Out, closes, breaksOff, sends, sendsNothing, refuses, outAnswer, load, next, seen}
 use Rattle.link.specs.Sender as sender
-use Rattle.link.specs.Receiver.{ReceiverEnd, receive}
+use Rattle.link.specs.Receiver.{ReceiverEnd, Receive, receive}
 use Rattle.link.specs.Receiver as receiver
 use Rattle.link.specs.ReceiverParts.{ReceiverReady}
 use Rattle.link.specs.Runs.{SenderCall, loading, nextOctet, Station, afterLoad, afterNext, senderAnswers, receives}
-use Rattle.link.proofs.Within.{most-is, refuses-frames}
+use Rattle.link.proofs.Within.{refuses-frames}
 use Rattle.link.proofs.ReadOn.{after-quiet}
-use Rattle.link.proofs.ReceiverCases.{too-short, out-of-bounds}
-use Rattle.link.proofs.SenderBounds.{load-answers, load-short, load-out-of-bounds, next-short, next-out-of-bounds}
+use Rattle.link.proofs.ReceiverCases.{not-valid, too-short, out-of-bounds}
+use Rattle.link.proofs.SenderBounds.{load-answers, load-invalid, load-short, load-out-of-bounds, next-invalid, next-short, next-out-of-bounds}
 use Rattle.link.proofs.EachCall.{refused-changes-nothing, idle-changes-nothing}
 use Rattle.reader.specs.Reading.{Reach, readOn}
 use Rattle.reader.proofs.Steps.{from-quiet, at-report, begins, ends}
@@ -34,8 +37,8 @@ use Rattle.writer.specs.Pieces.{inPieces, afterLoading, afterPiece}
 use Rattle.writer.specs.Writing.{Wrote, Filled, writesNothing, writeOn, onto}
 use Rattle.writer.proofs.Steps.{no-room, no-octet, none-written}
 use Rattle.kutarehopa.specs.Numbers.{number, value}
-use Rattle.kutarehopa.specs.Layout.{octetAt, spellReceiver, receiverIn, receiverOctets, spellSender, senderIn, senderOctets, over}
-use Rattle.kutarehopa.specs.Calls.{shortForReceiver, shortForSender, noState, taken, changes, received, receiverAfter, ReceiveCall, receiveCall, readTo, ReadCall, readCall, loaded, senderAfter, LoadCall, loadCall, sent, NextCall, nextCall, wrote, WriteCall, writeCall, openReceiver, openSender}
+use Rattle.kutarehopa.specs.Layout.{settingsIn, spellReceiver, receiverIn, receiverOctets, spellSender, senderIn, senderOctets, over}
+use Rattle.kutarehopa.specs.Calls.{shortForReceiver, shortForSender, noState, taken, changes, received, receiverAfter, ReceiveCall, receiveCall, readTo, ReadCall, readCall, loaded, senderAfter, LoadCall, loadCall, sent, NextCall, nextCall, wrote, WriteCall, writeCall, receiverOpened, senderOpened, openReceiver, openSender}
 use Rattle.kutarehopa.specs.AsTheCalls.{receiveInOctets, readInOctets, loadInOctets, nextInOctets, lastAnswer, writeInOctets, OnPackedStates, receiveCalls, SenderMemory, senderNumbers, readCalls, readings, LineStep, loadsPacket, writesLine, octetsOnLines, programStep, RunsAsLink, OpenedIsPacked, AsPackedAgain, NoCallMade, RefusedLeavesAll, NoOctetNoChange, NoStateIsOutOfBounds, RestStays}
 use Rattle.kutarehopa.proofs.Numbers.{reports-have-numbers, small-refused}
 use Rattle.kutarehopa.proofs.Spelling.{packed-spells-itself}
@@ -261,7 +264,8 @@ runs-as-link =
 
 pub opened-is-packed : OpenedIsPacked
 unfolding openReceiver openSender
-opened-is-packed = record { receiver = λ m settings. refl; sender = λ m settings. refl }
+opened-is-packed =
+    record { receiver = λ m settings v. rw v; sender = λ m settings v. rw v; noReceiver = λ m settings n. rw n; noSender = λ m settings n. rw n }
 
 -- ---- octets that spell a state
 
@@ -475,83 +479,106 @@ refused-leaves-all =
 
 -- ---- no state
 
--- the least lengths of the areas are the same for all settings
-same-most : (a b : ℕ) → mostDecoded (agreed a) ≡ mostDecoded (agreed b)
-same-most a b = most-is a ∙ sym (most-is b)
-
-same-largest : (a b : ℕ) → largestFrame (agreed a) ≡ largestFrame (agreed b)
-same-largest a b = omega (arith, most-is a, most-is b)
-
 -- the refusal of a state out of bounds
-abbrev refusal : Bool → Answer
-refusal short = if short then refused 2 else refused 3
+abbrev refusal : Settings → Bool → Answer
+refusal t short = if not (valid (agreed t)) then refused 3 else if short then refused 2 else refused 3
 
-number-refusal : (short : Bool) → noState short ≡ number (refusal short)
-number-refusal true = refl
-number-refusal false = refl
+number-refusal : (t : Settings) (short : Bool) → noState t short ≡ number (refusal t short)
+number-refusal t short = by (not (valid (agreed t))) short
+  where
+    by : (wrong short : Bool) → (if wrong then number (refused 3) else if short then number (refused 2) else number (refused 3))
+        ≡ number (if wrong then refused 3 else if short then refused 2 else refused 3)
+    by true short = refl
+    by false true = refl
+    by false false = refl
 
-module _ (m : List ℕ) (e : ReceiverEnd) (b : receiver.inBounds (agreed (e .state .settings)) (e .state) ≡ false) where
-  abbrev most : ℕ
-  most = mostDecoded (agreed (e .state .settings))
+-- it is a refusal
+by-refusal : (P : Answer → Type 0) → ((n : ℕ) → P (refused n)) → (t : Settings) (short : Bool) → P (refusal t short)
+by-refusal P r t short = branch P (not (valid (agreed t))) (λ _. r 3) (λ _. branch P short (λ _. r 2) (λ _. r 3))
 
-  out-receive : (x : ℕ) → receive e x ≡ record { report = refusal (shortForReceiver m (e .first) (e .second)); after = e }
+module _ (e : ReceiverEnd) (b : receiver.inBounds (agreed (e .state .settings)) (e .state) ≡ false) where
+  abbrev shortAreas : Bool
+  shortAreas = shortForReceiver (e .state .settings) (e .first) (e .second)
+
+  out-receive : (x : ℕ) → receive e x ≡ record { report = refusal (e .state .settings) shortAreas; after = e }
   out-receive x =
-      rw (same-most (octetAt m 4) (e .state .settings))
-      (decide (ltb (length (e .first)) most || ltb (length (e .second)) most) (λ k. too-short e x k ∙ rw k) (λ k. out-of-bounds e x k b ∙ rw k))
+      decide (valid (agreed (e .state .settings)))
+      (λ v. decide shortAreas (λ k. too-short e x v k ∙ rw (v, k)) (λ k. out-of-bounds e x v k b ∙ rw (v, k)))
+      (λ v. not-valid e x v ∙ rw v)
 
-  out-read : (x : ℕ) (xs : List ℕ) → readOn e (x ∷ xs) ≡ record { report = refusal (shortForReceiver m (e .first) (e .second)); after = e; used = 1 }
-  out-read x xs = at-report e x xs _ (sym (out-receive x)) (loud (shortForReceiver m (e .first) (e .second)))
-    where
-      loud : (short : Bool) → isQuiet (refusal short) ≡ false
-      loud true = refl
-      loud false = refl
+  out-read : (x : ℕ) (xs : List ℕ) → readOn e (x ∷ xs) ≡ record { report = refusal (e .state .settings) shortAreas; after = e; used = 1 }
+  out-read x xs =
+      at-report e x xs _ (sym (out-receive x)) (by-refusal (λ (a : Answer). isQuiet a ≡ false) (λ _. refl) (e .state .settings) shortAreas)
 
-module _ (m : List ℕ) (e : SenderEnd) (b : sender.inBounds (agreed (e .state .settings)) (e .state) ≡ false) where
+module _ (e : SenderEnd) (b : sender.inBounds (agreed (e .state .settings)) (e .state) ≡ false) where
   abbrev shortIn : Bool
-  shortIn = shortForSender m (e .low) || shortForSender m (e .high)
+  shortIn = shortForSender (e .state .settings) (e .low) || shortForSender (e .state .settings) (e .high)
 
-  abbrev largest : ℕ
-  largest = largestFrame (agreed (e .state .settings))
-
-  out-next : seen (next e) .answer ≡ refusal shortIn
+  out-next : seen (next e) .answer ≡ refusal (e .state .settings) shortIn
   out-next =
-      rw (same-largest (octetAt m 4) (e .state .settings))
-      (decide (ltb (length (e .low)) largest || ltb (length (e .high)) largest) (λ k. rw (next-short e k, k)) (λ k. rw (next-out-of-bounds e k b, k)))
+      decide (valid (agreed (e .state .settings)))
+      (λ v. decide shortIn (λ k. rw (next-short e v k, v, k)) (λ k. rw (next-out-of-bounds e v k b, v, k)))
+      (λ v. rw (next-invalid e v, v))
 
   out-write : (n : ℕ) → writeOn n e ≡ writesNothing (e .state)
-  out-write n = no-octet n e (λ x q. by shortIn x (sym out-next ∙ q))
-    where
-      by : (short : Bool) (x : ℕ) → refusal short ≡ octet x → ⊥
-      by true x q = let z : _≡_ {A = ℕ} 0 1 = cc in omega arith
-      by false x q = let z : _≡_ {A = ℕ} 0 1 = cc in omega arith
+  out-write n =
+      no-octet n e (λ x q.
+      by-refusal (λ (a : Answer). a ≡ octet x → ⊥) (λ i r. let z : _≡_ {A = ℕ} 0 1 = cc in omega arith) (e .state .settings) shortIn (sym out-next ∙ q))
 
-out-load : (m : List ℕ) (s : Sender) → sender.inBounds (agreed (s .settings)) s ≡ false → (l : Lane) (p area : List ℕ) → load l p s area .answer ≡ refusal (shortForSender m area)
-out-load m s b l p area =
-    rw (same-largest (octetAt m 4) (s .settings))
-    (decide (ltb (length area) (largestFrame (agreed (s .settings)))) (λ k. rw (load-short l p s area k, k)) (λ k. rw (load-out-of-bounds l p s area k b, k)))
+out-load : (s : Sender) → sender.inBounds (agreed (s .settings)) s ≡ false → (l : Lane) (p area : List ℕ)
+    → load l p s area .answer ≡ refusal (s .settings) (shortForSender (s .settings) area)
+out-load s b l p area =
+    decide (valid (agreed (s .settings)))
+    (λ v. decide (shortForSender (s .settings) area) (λ k. rw (load-short l p s area v k, v, k)) (λ k. rw (load-out-of-bounds l p s area v k b, v, k)))
+    (λ v. rw (load-invalid l p s area v, v))
 
-no-read : (m : List ℕ) → spellReceiver m ≡ false → (e : ReceiverEnd) → receiver.inBounds (agreed (e .state .settings)) (e .state) ≡ false → (xs : List ℕ)
+-- octets have the same answer as a state of their settings, by the areas that are too short for these
+module _ (m : List ℕ) (t : Settings) (same : t ≡ settingsIn m) (short : Settings → Bool) where
+  answer-is : noState (settingsIn m) (short (settingsIn m)) ≡ number (refusal t (short t))
+  answer-is = ap (λ (u : Settings). noState u (short u)) (sym same) ∙ number-refusal t (short t)
+
+no-read : (m : List ℕ) → spellReceiver m ≡ false → (e : ReceiverEnd) → e .state .settings ≡ settingsIn m
+    → receiver.inBounds (agreed (e .state .settings)) (e .state) ≡ false → (xs : List ℕ)
     → (readCall m xs (e .first) (e .second) .answer ≡ number (readOn e xs .report)) × (readCall m xs (e .first) (e .second) .used ≡ readOn e xs .used)
-no-read m n e b [] = rw (reads-nothing m (e .first) (e .second) [] refl, reads-none e) (refl, refl)
-no-read m n e b (x ∷ xs) =
-    rw (no-reader m (e .first) (e .second) n (x ∷ xs) (λ z. omega (arith, z)), out-read m e b x xs) (number-refusal (shortForReceiver m (e .first) (e .second)), refl)
+no-read m n e same b [] = rw (reads-nothing m (e .first) (e .second) [] refl, reads-none e) (refl, refl)
+no-read m n e same b (x ∷ xs) =
+    let c = no-reader m (e .first) (e .second) n (x ∷ xs) (λ z. omega (arith, z)) in
+    let r = out-read e b x xs in (
+      ap (λ (h : ReadCall). h .answer) c
+          ∙ answer-is m (e .state .settings) same (λ t. shortForReceiver t (e .first) (e .second))
+          ∙ sym (ap (λ (h : Reach). number (h .report)) r),
+      ap (λ (h : ReadCall). h .used) c ∙ sym (ap (λ (h : Reach). h .used) r),
+    )
 
-no-write : (m : List ℕ) → spellSender m ≡ false → (e : SenderEnd) → sender.inBounds (agreed (e .state .settings)) (e .state) ≡ false → (line : List ℕ)
+no-next : (m : List ℕ) (e : SenderEnd) → e .state .settings ≡ settingsIn m → sender.inBounds (agreed (e .state .settings)) (e .state) ≡ false
+    → noState (settingsIn m) (shortForSender (settingsIn m) (e .low) || shortForSender (settingsIn m) (e .high)) ≡ number (seen (next e) .answer)
+no-next m e same b =
+    answer-is m (e .state .settings) same (λ t. shortForSender t (e .low) || shortForSender t (e .high)) ∙ ap number (sym (out-next e b))
+
+no-write : (m : List ℕ) → spellSender m ≡ false → (e : SenderEnd) → e .state .settings ≡ settingsIn m
+    → sender.inBounds (agreed (e .state .settings)) (e .state) ≡ false → (line : List ℕ)
     → (writeCall m (e .low) (e .high) line .answer ≡ number (lastAnswer line e (onto line (writeOn (length line) e))))
     × (writeCall m (e .low) (e .high) line .written ≡ 0)
-no-write m n e b [] = rw (writes-nothing m (e .low) (e .high) [] refl) (refl, refl)
-no-write m n e b (x ∷ xs) =
+no-write m n e same b [] = rw (writes-nothing m (e .low) (e .high) [] refl) (refl, refl)
+no-write m n e same b (x ∷ xs) =
     let room : length (x ∷ xs) ≡ 0 → ⊥ = λ z. omega (arith, z) in
-    rw (no-writer m (e .low) (e .high) n (x ∷ xs) room, out-write m e b (length (x ∷ xs)), ne-eqb _ _ room)
-    (number-refusal (shortIn m e b) ∙ ap number (sym (out-next m e b)), refl)
+    let c = no-writer m (e .low) (e .high) n (x ∷ xs) room in
+    rw (out-write e b (length (x ∷ xs)), ne-eqb _ _ room)
+    (ap (λ (h : WriteCall). h .answer) c ∙ no-next m e same b, ap (λ (h : WriteCall). h .written) c)
 
 pub no-state-is-out-of-bounds : NoStateIsOutOfBounds
 no-state-is-out-of-bounds =
     record {
-      receive = λ m n e b x. rw (no-receiver m (e .first) (e .second) n x, out-receive m e b x) (number-refusal (shortForReceiver m (e .first) (e .second)));
+      receive = λ m n e same b x.
+          ap (λ (h : ReceiveCall). h .answer) (no-receiver m (e .first) (e .second) n x)
+          ∙ answer-is m (e .state .settings) same (λ t. shortForReceiver t (e .first) (e .second))
+          ∙ sym (ap (λ (h : Receive). number (h .report)) (out-receive e b x));
       read = no-read;
-      load = λ m n s b l p area. rw (no-loader l m p area n, out-load m s b l p area) (number-refusal (shortForSender m area));
-      next = λ m n e b. ap (λ (h : NextCall). h .answer) (no-sender m (e .low) (e .high) n) ∙ number-refusal (shortIn m e b) ∙ ap number (sym (out-next m e b));
+      load = λ m n s same b l p area.
+          ap (λ (h : LoadCall). h .answer) (no-loader l m p area n)
+          ∙ answer-is m (s .settings) same (λ t. shortForSender t area)
+          ∙ ap number (sym (out-load s b l p area));
+      next = λ m n e same b. ap (λ (h : NextCall). h .answer) (no-sender m (e .low) (e .high) n) ∙ no-next m e same b;
       write = no-write;
     }
 
@@ -618,10 +645,14 @@ pub rest-stays : RestStays
 unfolding openReceiver openSender
 rest-stays =
     record {
-      openReceiver = λ m settings. receiver-rest m (receiver.openedReceiver settings);
+      openReceiver = λ m settings.
+          branch (λ (o : ReceiverOpening). drop 26 (receiverOpened m o .state) ≡ drop 26 m) (valid (agreed settings))
+          (λ _. receiver-rest m (receiver.openedReceiver settings)) (λ _. refl);
       receive = receive-rest;
       read = read-rest;
-      openSender = λ m settings. sender-rest m (sender.openedSender settings);
+      openSender = λ m settings.
+          branch (λ (o : SenderOpening). drop 38 (senderOpened m o .state) ≡ drop 38 m) (valid (agreed settings))
+          (λ _. sender-rest m (sender.openedSender settings)) (λ _. refl);
       load = load-rest;
       next = next-rest;
       write = write-rest;

@@ -13,7 +13,7 @@ use Rattle.link.specs.Receiver.{receive}
 use Rattle.reader.specs.Reading.{readOn}
 use Rattle.writer.specs.Writing.{Filled, writeOn, onto}
 use Rattle.kutarehopa.specs.Numbers.{number}
-use Rattle.kutarehopa.specs.Layout.{spellReceiver, receiverIn, spellSender, senderIn, senderOctets, over}
+use Rattle.kutarehopa.specs.Layout.{settingsIn, spellReceiver, receiverIn, spellSender, senderIn, senderOctets, over}
 use Rattle.kutarehopa.specs.Calls.{noState, shortForReceiver, shortForSender, received, receiveCall, readTo, readCall, loaded, loadCall, sent, nextCall, wrote, writeCall}
 
 -- ---- the receiver
@@ -21,12 +21,12 @@ use Rattle.kutarehopa.specs.Calls.{noState, shortForReceiver, shortForSe
 module _ (m first second : List ℕ) where
   module _ (n : spellReceiver m ≡ false) where
     pub no-receiver : (x : ℕ) → receiveCall m x first second
-        ≡ record { answer = noState (shortForReceiver m first second); state = m; first = first; second = second }
+        ≡ record { answer = noState (settingsIn m) (shortForReceiver (settingsIn m) first second); state = m; first = first; second = second }
     unfolding receiveCall
     no-receiver x = simp n
 
     pub no-reader : (xs : List ℕ) → (length xs ≡ 0 → ⊥) → readCall m xs first second
-        ≡ record { answer = noState (shortForReceiver m first second); used = 1; state = m; first = first; second = second }
+        ≡ record { answer = noState (settingsIn m) (shortForReceiver (settingsIn m) first second); used = 1; state = m; first = first; second = second }
     unfolding readCall
     no-reader xs h = simp (ne-eqb _ _ h, n)
 
@@ -48,7 +48,7 @@ module _ (m first second : List ℕ) where
 -- ---- the sender
 
 module _ (l : Lane) (m p area : List ℕ) where
-  pub no-loader : spellSender m ≡ false → loadCall l m p area ≡ record { answer = noState (shortForSender m area); state = m; area = area }
+  pub no-loader : spellSender m ≡ false → loadCall l m p area ≡ record { answer = noState (settingsIn m) (shortForSender (settingsIn m) area); state = m; area = area }
   unfolding loadCall
   no-loader n = simp n
 
@@ -61,12 +61,12 @@ module _ (m low high : List ℕ) where
   end s = record { state = s; low = low; high = high }
 
   module _ (n : spellSender m ≡ false) where
-    pub no-sender : nextCall m low high ≡ record { answer = noState (shortForSender m low || shortForSender m high); state = m }
+    pub no-sender : nextCall m low high ≡ record { answer = noState (settingsIn m) (shortForSender (settingsIn m) low || shortForSender (settingsIn m) high); state = m }
     unfolding nextCall
     no-sender = simp n
 
     pub no-writer : (line : List ℕ) → (length line ≡ 0 → ⊥) → writeCall m low high line
-        ≡ record { answer = noState (shortForSender m low || shortForSender m high); written = 0; state = m; line = line }
+        ≡ record { answer = noState (settingsIn m) (shortForSender (settingsIn m) low || shortForSender (settingsIn m) high); written = 0; state = m; line = line }
     unfolding writeCall
     no-writer line h = simp (ne-eqb _ _ h, n)
 

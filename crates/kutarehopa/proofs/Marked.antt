@@ -1,13 +1,26 @@
--- Particular octets and numbers.
+-- Particular octets and numbers. This file opens definitions of link.
 use mathlib.Core.Path.{refl}
+use Rattle.link.specs.Agreed.{agreed, valid}
 use Rattle.kutarehopa.specs.Calls.{openReceiver, openSender}
 use Rattle.kutarehopa.specs.Layout.{spellReceiver, receiverIn, receiverOctets, spellSender, senderOctets}
 use Rattle.kutarehopa.specs.Marked.{MarkedOctets, MarkedNumbers}
 
 pub marked-octets : MarkedOctets
-unfolding openReceiver openSender spellReceiver receiverIn receiverOctets spellSender senderOctets
+unfolding agreed valid openReceiver openSender spellReceiver receiverIn receiverOctets spellSender senderOctets
 marked-octets =
-    record { receiver = refl; anotherReceiver = refl; sender = refl; anotherSender = refl; openedReceiver = refl; openedSender = refl; noReceiver = refl; noSender = refl; countAside = refl }
+    record {
+      receiver = refl;
+      anotherReceiver = refl;
+      sender = refl;
+      anotherSender = refl;
+      openedReceiver = refl;
+      openedSender = refl;
+      refusedReceiver = refl;
+      refusedSender = refl;
+      noReceiver = refl;
+      noSender = refl;
+      countAside = refl;
+    }
 
 pub marked-numbers : MarkedNumbers
 marked-numbers = record { quiet = refl; packet = refl; held = refl; refused = refl; done = refl; octet = refl; idle = refl }

@@ -9,7 +9,8 @@ use Rattle.link.specs.Answers.{Answer, done, octet, idle, quiet, packet, held, 
 use Rattle.link.specs.Agreed.{agreed}
 use Rattle.link.specs.Receiver.{receive}
 use Rattle.link.specs.EachCall.{Within}
-use Rattle.link.proofs.Within.{within, by-report, limit-is, most-is}
+use Rattle.link.proofs.Agreed.{limit-is, decoded-at-most}
+use Rattle.link.proofs.Within.{within, by-report}
 use Rattle.kutarehopa.specs.Numbers.{numbered, kind, mark, value, number, kindOf, markOf, valueOf, answerWith, NumbersComeApart, ReportsHaveNumbers}
 
 -- kind, mark and value of a number with a small value
@@ -52,7 +53,7 @@ reports-have-numbers e x =
     let settings = e .state .settings in
     by-report (λ (a : Answer). Within (agreed settings) a (receive e x .after) → value a < 0x10000) (λ w. omega arith)
     (λ inSecond n w. omega (arith, w .1, limit-is settings))
-    (λ n replaced w. omega (arith, w, most-is settings))
+    (λ n replaced w. omega (arith, w, decoded-at-most settings))
     (λ n w. omega (arith, w .1))
     e
     x

@@ -211,6 +211,7 @@ module _ (m n : List ℕ) where
 
   abbrev SameReceiver : Type 0
   SameReceiver = (octetAt n 0 ≡ octetAt m 0)
+      × (octetAt n 1 ≡ octetAt m 1)
       × (octetAt n 4 ≡ octetAt m 4)
       × (octetAt n 10 ≡ octetAt m 10)
       × (octetAt n 11 ≡ octetAt m 11)
@@ -224,14 +225,14 @@ module _ (m n : List ℕ) where
       × (octetAt n 25 ≡ octetAt m 25)
 
   same-receiver : (held : Bool) → octetsAt n (placesIfHeld held) ≡ octetsAt m (placesIfHeld held) → SameReceiver
-  same-receiver held e = let at = same-at (placesIfHeld held) e in (at 0, at 1, at 2, at 3, at 4, at 5, at 6, at 7, at 8, at 9, at 10, at 11)
+  same-receiver held e = let at = same-at (placesIfHeld held) e in (at 0, at 1, at 2, at 3, at 4, at 5, at 6, at 7, at 8, at 9, at 10, at 11, at 12)
 
   same-held : (held : Bool) → markAt m 13 ≡ held → octetsAt n (placesIfHeld held) ≡ octetsAt m (placesIfHeld held)
       → (if markAt m 13 then holds (octetAt n 14 + 256 * octetAt n 15) else nothingHeld) ≡ (if markAt m 13 then holds (octetAt m 14 + 256 * octetAt m 15) else nothingHeld)
   same-held true h e =
       let at = same-at (placesIfHeld true) e in
-      let low : octetAt n 14 ≡ octetAt m 14 = at 12 in
-      let high : octetAt n 15 ≡ octetAt m 15 = at 13 in
+      let low : octetAt n 14 ≡ octetAt m 14 = at 13 in
+      let high : octetAt n 15 ≡ octetAt m 15 = at 14 in
       rw (low, high)
   same-held false h e = rw h
 
@@ -239,12 +240,13 @@ module _ (m n : List ℕ) where
   unfolding spellReceiver receiverIn
   receiver-nowhere e =
       let p = same-receiver (markAt m 13) e in (
-        rw (p .0, p .2, p .5, p .8, p .9, p .10),
-        rw (p .1, p .2, p .3, p .4, p .5, p .6, p .7, p .8, p .9, p .10, p .11, same-held (markAt m 13) refl e),
+        rw (p .0, p .3, p .6, p .9, p .10, p .11),
+        rw (p .1, p .2, p .3, p .4, p .5, p .6, p .7, p .8, p .9, p .10, p .11, p .12, same-held (markAt m 13) refl e),
       )
 
   abbrev SameSender : Type 0
   SameSender = (octetAt n 0 ≡ octetAt m 0)
+      × (octetAt n 1 ≡ octetAt m 1)
       × (octetAt n 4 ≡ octetAt m 4)
       × (octetAt n 5 ≡ octetAt m 5)
       × (octetAt n 6 ≡ octetAt m 6)
@@ -261,14 +263,14 @@ module _ (m n : List ℕ) where
       × (octetAt n 17 ≡ octetAt m 17)
 
   same-sender : octetsAt n senderPlaces ≡ octetsAt m senderPlaces → SameSender
-  same-sender e = let at = same-at senderPlaces e in (at 0, at 1, at 2, at 3, at 4, at 5, at 6, at 7, at 8, at 9, at 10, at 11, at 12, at 13, at 14)
+  same-sender e = let at = same-at senderPlaces e in (at 0, at 1, at 2, at 3, at 4, at 5, at 6, at 7, at 8, at 9, at 10, at 11, at 12, at 13, at 14, at 15)
 
   sender-nowhere : octetsAt n senderPlaces ≡ octetsAt m senderPlaces → (spellSender n ≡ spellSender m) × (senderIn n ≡ senderIn m)
   unfolding spellSender senderIn
   sender-nowhere e =
       let p = same-sender e in (
-        rw (p .0, p .2, p .3, p .4),
-        rw (p .1, p .2, p .3, p .4, p .5, p .6, p .7, p .8, p .9, p .10, p .11, p .12, p .13, p .14),
+        rw (p .0, p .3, p .4, p .5),
+        rw (p .1, p .2, p .3, p .4, p .5, p .6, p .7, p .8, p .9, p .10, p .11, p .12, p .13, p .14, p .15),
       )
 
 pub looks-nowhere-else : LooksNowhereElse

@@ -6,7 +6,8 @@ use Prim.Native.Nat.{ℕ, _-_, _<_}
 use lib.Dec.{eqb}
 use lib.ListN.{length, take, drop, getD}
 use Rattle.fcs.specs.Notation.{if_then_else_}
-use Rattle.link.specs.Agreed.{agreed}
+use Rattle.link.specs.declared.Settings.{Settings}
+use Rattle.link.specs.Agreed.{agreed, valid}
 use Rattle.link.specs.Answers.{Answer, done, octet, idle, quiet, refused}
 use Rattle.link.specs.declared.sender.Lane.{Lane}
 use Rattle.link.specs.declared.sender.Lane.the-variants.{Low as low, High as high}
@@ -21,7 +22,7 @@ use Rattle.reader.specs.Reading.{Reach, readOn}
 use Rattle.writer.specs.Writing.{Filled, writeOn, onto}
 use Rattle.writer.specs.Pieces.{ProgramStep, loads, piece, inPieces}
 use Rattle.kutarehopa.specs.Numbers.{number}
-use Rattle.kutarehopa.specs.Layout.{spellReceiver, receiverIn, receiverOctets, spellSender, senderIn, senderOctets, over}
+use Rattle.kutarehopa.specs.Layout.{settingsIn, spellReceiver, receiverIn, receiverOctets, spellSender, senderIn, senderOctets, over}
 use Rattle.kutarehopa.specs.Calls.{openReceiver, openSender, ReceiveCall, receiveCall, ReadCall, readCall, LoadCall, loadCall, NextCall, nextCall, WriteCall, writeCall}
 
 -- ---- on a packed state, which has in the octets of the layout those of a state: so every opening leaves it
@@ -145,10 +146,14 @@ pub record RunsAsLink : Type 0 where
   pub lines : (e : SenderEnd) (m : List ℕ) (ss : List LineStep)
       → octetsOnLines (record { state = over (senderOctets (e .state)) m; low = e .low; high = e .high }) ss ≡ inPieces e (map programStep ss) .octets
 
--- An opened end is packed.
+-- An opened end is packed; settings that are not valid leave all octets.
 pub record OpenedIsPacked : Type 0 where
-  pub receiver : (m : List ℕ) (settings : ℕ) → openReceiver m settings .state ≡ over (receiverOctets (receiver.openedReceiver settings)) m
-  pub sender : (m : List ℕ) (settings : ℕ) → openSender m settings .state ≡ over (senderOctets (sender.openedSender settings)) m
+  pub receiver : (m : List ℕ) (settings : Settings) → valid (agreed settings) ≡ true
+      → openReceiver m settings ≡ record { answer = number done; state = over (receiverOctets (receiver.openedReceiver settings)) m }
+  pub sender : (m : List ℕ) (settings : Settings) → valid (agreed settings) ≡ true
+      → openSender m settings ≡ record { answer = number done; state = over (senderOctets (sender.openedSender settings)) m }
+  pub noReceiver : (m : List ℕ) (settings : Settings) → valid (agreed settings) ≡ false → openReceiver m settings ≡ record { answer = number (refused 3); state = m }
+  pub noSender : (m : List ℕ) (settings : Settings) → valid (agreed settings) ≡ false → openSender m settings ≡ record { answer = number (refused 3); state = m }
 
 -- ---- on any octets
 
@@ -202,27 +207,27 @@ pub record NoOctetNoChange : Type 0 where
       → nextCall m low high ≡ record { answer = number (refused n); state = m }
   pub write : (m low high line : List ℕ) → writeCall m low high line .written ≡ 0 → (writeCall m low high line .state ≡ m) × (writeCall m low high line .line ≡ line)
 
--- Octets that spell no state are answered as any state out of bounds is.
+-- Octets that spell no state are answered as any state of their settings that is out of bounds.
 pub record NoStateIsOutOfBounds : Type 0 where
-  pub receive : (m : List ℕ) → spellReceiver m ≡ false → (e : ReceiverEnd) → receiver.inBounds (agreed (e .state .settings)) (e .state) ≡ false → (x : ℕ)
+  pub receive : (m : List ℕ) → spellReceiver m ≡ false → (e : ReceiverEnd) → e .state .settings ≡ settingsIn m → receiver.inBounds (agreed (e .state .settings)) (e .state) ≡ false → (x : ℕ)
       → receiveCall m x (e .first) (e .second) .answer ≡ number (receive e x .report)
-  pub read : (m : List ℕ) → spellReceiver m ≡ false → (e : ReceiverEnd) → receiver.inBounds (agreed (e .state .settings)) (e .state) ≡ false → (xs : List ℕ)
+  pub read : (m : List ℕ) → spellReceiver m ≡ false → (e : ReceiverEnd) → e .state .settings ≡ settingsIn m → receiver.inBounds (agreed (e .state .settings)) (e .state) ≡ false → (xs : List ℕ)
       → (readCall m xs (e .first) (e .second) .answer ≡ number (readOn e xs .report)) × (readCall m xs (e .first) (e .second) .used ≡ readOn e xs .used)
-  pub load : (m : List ℕ) → spellSender m ≡ false → (s : Sender) → sender.inBounds (agreed (s .settings)) s ≡ false → (l : Lane) (p area : List ℕ)
+  pub load : (m : List ℕ) → spellSender m ≡ false → (s : Sender) → s .settings ≡ settingsIn m → sender.inBounds (agreed (s .settings)) s ≡ false → (l : Lane) (p area : List ℕ)
       → loadCall l m p area .answer ≡ number (load l p s area .answer)
-  pub next : (m : List ℕ) → spellSender m ≡ false → (e : SenderEnd) → sender.inBounds (agreed (e .state .settings)) (e .state) ≡ false
+  pub next : (m : List ℕ) → spellSender m ≡ false → (e : SenderEnd) → e .state .settings ≡ settingsIn m → sender.inBounds (agreed (e .state .settings)) (e .state) ≡ false
       → nextCall m (e .low) (e .high) .answer ≡ number (seen (next e) .answer)
-  pub write : (m : List ℕ) → spellSender m ≡ false → (e : SenderEnd) → sender.inBounds (agreed (e .state .settings)) (e .state) ≡ false → (line : List ℕ)
+  pub write : (m : List ℕ) → spellSender m ≡ false → (e : SenderEnd) → e .state .settings ≡ settingsIn m → sender.inBounds (agreed (e .state .settings)) (e .state) ≡ false → (line : List ℕ)
       → (writeCall m (e .low) (e .high) line .answer ≡ number (lastAnswer line e (onto line (writeOn (length line) e))))
       × (writeCall m (e .low) (e .high) line .written ≡ 0)
 
 -- No call writes to the octets of a memory that the layout does not list: those from the 27th of a receiver's on, and from the 39th of a
 -- sender's.
 pub record RestStays : Type 0 where
-  pub openReceiver : (m : List ℕ) (settings : ℕ) → drop 26 (openReceiver m settings .state) ≡ drop 26 m
+  pub openReceiver : (m : List ℕ) (settings : Settings) → drop 26 (openReceiver m settings .state) ≡ drop 26 m
   pub receive : (m : List ℕ) (x : ℕ) (first second : List ℕ) → drop 26 (receiveCall m x first second .state) ≡ drop 26 m
   pub read : (m xs first second : List ℕ) → drop 26 (readCall m xs first second .state) ≡ drop 26 m
-  pub openSender : (m : List ℕ) (settings : ℕ) → drop 38 (openSender m settings .state) ≡ drop 38 m
+  pub openSender : (m : List ℕ) (settings : Settings) → drop 38 (openSender m settings .state) ≡ drop 38 m
   pub load : (l : Lane) (m p area : List ℕ) → drop 38 (loadCall l m p area .state) ≡ drop 38 m
   pub next : (m low high : List ℕ) → drop 38 (nextCall m low high .state) ≡ drop 38 m
   pub write : (m low high line : List ℕ) → drop 38 (writeCall m low high line .state) ≡ drop 38 m

@@ -1,22 +1,29 @@
 -- The calls of the C library: what each answers, and the octets of its state and its areas after it. Each is the call of link, of reader or of
 -- writer on the state that the octets spell.
-use mathlib.Core.Bool.{Bool, true, false, _||_}
+use mathlib.Core.Bool.{Bool, true, false, not, _||_}
 use mathlib.Core.List.{List}
 use Prim.Native.Nat.{ℕ, _-_}
 use lib.Dec.{leb, ltb, eqb}
 use lib.ListN.{length, getD}
 use Rattle.fcs.specs.Notation.{if_then_else_}
-use Rattle.link.specs.Agreed.{agreed, largestFrame, mostDecoded}
+use Rattle.link.specs.declared.Settings.{Settings}
+use Rattle.link.specs.Agreed.{agreed, valid, largestFrame, mostDecoded}
 use Rattle.link.specs.Answers.{Answer, done, octet, idle, quiet, packet, held, refused}
 use Rattle.link.specs.declared.sender.Lane.{Lane}
 use Rattle.link.specs.declared.sender.Sender.{Sender}
-use Rattle.link.specs.Sender.{SenderEnd, Load, Next, openedSender, load, next, seen}
+use Rattle.link.specs.declared.sender.Opening.{Opening as SenderOpening}
+use Rattle.link.specs.declared.sender.Opening.the-variants.{Opened as OpenedSender, Refused as SenderRefused}
+use Rattle.link.specs.Sender.{SenderEnd, Load, Next, load, next, seen}
+use Rattle.link.specs.Sender as sender
 use Rattle.link.specs.declared.receiver.Receiver.{Receiver}
-use Rattle.link.specs.Receiver.{Receive, openedReceiver, receive}
+use Rattle.link.specs.declared.receiver.Opening.{Opening as ReceiverOpening}
+use Rattle.link.specs.declared.receiver.Opening.the-variants.{Opened as OpenedReceiver, Refused as ReceiverRefused}
+use Rattle.link.specs.Receiver.{Receive, receive}
+use Rattle.link.specs.Receiver as receiver
 use Rattle.reader.specs.Reading.{Reach, readOn}
 use Rattle.writer.specs.Writing.{Filled, writeOn, onto}
 use Rattle.kutarehopa.specs.Numbers.{number}
-use Rattle.kutarehopa.specs.Layout.{octetAt, spellReceiver, receiverIn, receiverOctets, spellSender, senderIn, senderOctets, over}
+use Rattle.kutarehopa.specs.Layout.{settingsIn, spellReceiver, receiverIn, receiverOctets, spellSender, senderIn, senderOctets, over}
 
 -- ---- opening
 
@@ -24,25 +31,34 @@ pub record OpenCall : Type 0 where
   pub answer : ℕ
   pub state : List ℕ
 
-unfoldable pub openReceiver : List ℕ → ℕ → OpenCall
-openReceiver m settings = record { answer = number done; state = over (receiverOctets (openedReceiver settings)) m }
+-- the octets of the opened state, and where the opening is refused as they were
+abbrev pub receiverOpened : List ℕ → ReceiverOpening → OpenCall
+receiverOpened m (OpenedReceiver r) = record { answer = number done; state = over (receiverOctets r) m }
+receiverOpened m (ReceiverRefused n) = record { answer = number (refused n); state = m }
 
-unfoldable pub openSender : List ℕ → ℕ → OpenCall
-openSender m settings = record { answer = number done; state = over (senderOctets (openedSender settings)) m }
+unfoldable pub openReceiver : List ℕ → Settings → OpenCall
+openReceiver m settings = receiverOpened m (receiver.openReceiver settings)
+
+abbrev pub senderOpened : List ℕ → SenderOpening → OpenCall
+senderOpened m (OpenedSender s) = record { answer = number done; state = over (senderOctets s) m }
+senderOpened m (SenderRefused n) = record { answer = number (refused n); state = m }
+
+unfoldable pub openSender : List ℕ → Settings → OpenCall
+openSender m settings = senderOpened m (sender.openSender settings)
 
 -- ---- octets that spell no state
 
--- They are refused where a state out of bounds is: 2, where an area is too short, and else 3.
-abbrev pub noState : Bool → ℕ
-noState short = if short then number (refused 2) else number (refused 3)
+-- They are refused where a state out of bounds is: 3 of settings that are not valid, 2 where an area is too short, and else 3.
+abbrev pub noState : Settings → Bool → ℕ
+noState settings short =
+    if not (valid (agreed settings)) then number (refused 3) else if short then number (refused 2) else number (refused 3)
 
--- too short for what was agreed, the settings being octet 4 (as yet all settings give the same lengths)
-abbrev pub shortForReceiver : List ℕ → List ℕ → List ℕ → Bool
-shortForReceiver m first second =
-    ltb (length first) (mostDecoded (agreed (octetAt m 4))) || ltb (length second) (mostDecoded (agreed (octetAt m 4)))
+-- too short for what was agreed
+abbrev pub shortForReceiver : Settings → List ℕ → List ℕ → Bool
+shortForReceiver settings first second = ltb (length first) (mostDecoded (agreed settings)) || ltb (length second) (mostDecoded (agreed settings))
 
-abbrev pub shortForSender : List ℕ → List ℕ → Bool
-shortForSender m area = ltb (length area) (largestFrame (agreed (octetAt m 4)))
+abbrev pub shortForSender : Settings → List ℕ → Bool
+shortForSender settings area = ltb (length area) (largestFrame (agreed settings))
 
 -- ---- the receiver
 
@@ -78,7 +94,7 @@ received m h =
 unfoldable pub receiveCall : List ℕ → ℕ → List ℕ → List ℕ → ReceiveCall
 receiveCall m x first second =
     if spellReceiver m then received m (receive (record { state = receiverIn m; first = first; second = second }) x)
-    else record { answer = noState (shortForReceiver m first second); state = m; first = first; second = second }
+    else record { answer = noState (settingsIn m) (shortForReceiver (settingsIn m) first second); state = m; first = first; second = second }
 
 -- reading on; used: how many octets were used
 pub record ReadCall : Type 0 where
@@ -103,7 +119,7 @@ unfoldable pub readCall : List ℕ → List ℕ → List ℕ → List ℕ → Re
 readCall m xs first second =
     if eqb (length xs) 0 then record { answer = number quiet; used = 0; state = m; first = first; second = second }
     else if spellReceiver m then readTo m (readOn (record { state = receiverIn m; first = first; second = second }) xs)
-    else record { answer = noState (shortForReceiver m first second); used = 1; state = m; first = first; second = second }
+    else record { answer = noState (settingsIn m) (shortForReceiver (settingsIn m) first second); used = 1; state = m; first = first; second = second }
 
 -- ---- the sender
 
@@ -131,7 +147,7 @@ loaded m h = record { answer = number (h .answer); state = senderAfter m (h .ans
 unfoldable pub loadCall : Lane → List ℕ → List ℕ → List ℕ → LoadCall
 loadCall l m p area =
     if spellSender m then loaded m (load l p (senderIn m) area)
-    else record { answer = noState (shortForSender m area); state = m; area = area }
+    else record { answer = noState (settingsIn m) (shortForSender (settingsIn m) area); state = m; area = area }
 
 pub record NextCall : Type 0 where
   pub answer : ℕ
@@ -143,7 +159,7 @@ sent m h = record { answer = number (h .answer); state = senderAfter m (h .answe
 unfoldable pub nextCall : List ℕ → List ℕ → List ℕ → NextCall
 nextCall m low high =
     if spellSender m then sent m (seen (next (record { state = senderIn m; low = low; high = high })))
-    else record { answer = noState (shortForSender m low || shortForSender m high); state = m }
+    else record { answer = noState (settingsIn m) (shortForSender (settingsIn m) low || shortForSender (settingsIn m) high); state = m }
 
 -- writing on; written: how many octets were written
 pub record WriteCall : Type 0 where
@@ -171,4 +187,4 @@ writeCall m low high line =
     else if spellSender m then
     (let e : SenderEnd = record { state = senderIn m; low = low; high = high } in
     wrote m (seen (next e) .answer) (onto line (writeOn (length line) e)))
-    else record { answer = noState (shortForSender m low || shortForSender m high); written = 0; state = m; line = line }
+    else record { answer = noState (settingsIn m) (shortForSender (settingsIn m) low || shortForSender (settingsIn m) high); written = 0; state = m; line = line }

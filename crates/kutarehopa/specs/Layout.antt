@@ -4,7 +4,7 @@
 --
 --   receiver                               sender
 --   0       1                              0       1
---   1       width: 16                      1       width: 16
+--   1       width                          1       width
 --   2-3     limit: 2,048                   2-3     limit: 2,048
 --   4       settings                       4       settings
 --   5       mode: 0                        5       lane on the line: 0 none, 1 low, 2 high
@@ -27,6 +27,7 @@ use Prim.Native.Nat.{ℕ, _+_, _*_, _/_, _%_}
 use lib.Dec.{leb, eqb}
 use lib.ListN.{length, drop, getD, replicate}
 use Rattle.fcs.specs.Notation.{if_then_else_}
+use Rattle.link.specs.declared.Settings.{Settings}
 use Rattle.link.specs.declared.sender.Lane.the-variants.{Low as low, High as high}
 use Rattle.link.specs.declared.sender.OnLine.{OnLine}
 use Rattle.link.specs.declared.sender.OnLine.the-variants.{NoLane as noLane, Sending as sending}
@@ -60,6 +61,10 @@ abbrev pub markOctet : Bool → ℕ
 markOctet true = 1
 markOctet false = 0
 
+-- the settings, of either end
+abbrev pub settingsIn : List ℕ → Settings
+settingsIn m = record { octet = octetAt m 4; width = octetAt m 1 }
+
 -- ---- the receiver
 
 abbrev pub lastBlockOf : ℕ → LastBlock
@@ -87,7 +92,7 @@ spellReceiver m =
 unfoldable pub receiverIn : List ℕ → Receiver
 receiverIn m =
     record {
-      settings = octetAt m 4;
+      settings = settingsIn m;
       turn = markAt m 10;
       decoded = numberAt m 11;
       held = if markAt m 13 then holds (numberAt m 14) else nothingHeld;
@@ -102,7 +107,7 @@ receiverIn m =
 -- and the octets of a state, from the first on
 unfoldable pub receiverOctets : Receiver → List ℕ
 receiverOctets r =
-    1 ∷ 16 ∷ lowOctet 2048 ∷ highOctet 2048 ∷ r .settings ∷ 0 ∷ 0 ∷ 0 ∷ 0 ∷ 0
+    1 ∷ r .settings .width ∷ lowOctet 2048 ∷ highOctet 2048 ∷ r .settings .octet ∷ 0 ∷ 0 ∷ 0 ∷ 0 ∷ 0
     ∷ markOctet (r .turn) ∷ lowOctet (r .decoded) ∷ highOctet (r .decoded)
     ∷ heldOctet (r .held) ∷ lowOctet (heldCount (r .held)) ∷ highOctet (heldCount (r .held)) ∷ 0 ∷ 0 ∷ 0 ∷ 0
     ∷ r .left ∷ r .zeros ∷ lastBlockOctet (r .last) ∷ markOctet (r .framed) ∷ markOctet (r .resumed) ∷ r .refusal ∷ []
@@ -123,7 +128,7 @@ spellSender m = eqb (octetAt m 0) 1 && leb (octetAt m 5) 2 && leb (octetAt m 6) 
 unfoldable pub senderIn : List ℕ → Sender
 senderIn m =
     record {
-      settings = octetAt m 4;
+      settings = settingsIn m;
       on = lineOf (octetAt m 5);
       suspended = markAt m 6;
       cut = markAt m 7;
@@ -135,7 +140,7 @@ senderIn m =
 
 unfoldable pub senderOctets : Sender → List ℕ
 senderOctets s =
-    1 ∷ 16 ∷ lowOctet 2048 ∷ highOctet 2048 ∷ s .settings
+    1 ∷ s .settings .width ∷ lowOctet 2048 ∷ highOctet 2048 ∷ s .settings .octet
     ∷ lineOctet (s .on) ∷ markOctet (s .suspended) ∷ markOctet (s .cut)
     ∷ lowOctet (s .low .length) ∷ highOctet (s .low .length) ∷ lowOctet (s .low .position) ∷ highOctet (s .low .position)
     ∷ lowOctet (s .high .length) ∷ highOctet (s .high .length) ∷ lowOctet (s .high .position) ∷ highOctet (s .high .position)

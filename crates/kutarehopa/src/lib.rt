@@ -2,21 +2,23 @@
 // answers and leaves.
 ghost use mathlib.Core.Path.{_≡_};
 ghost use mathlib.Core.Bool.{_||_};
-ghost use Prim.Native.Nat.{ℕ, _+_, _*_};
+ghost use Prim.Native.Nat.{_+_, _*_};
 ghost use lib.Dec.{ltb};
 ghost use lib.ListN.{length};
-ghost use Rattle.fcs.specs.CheckSequence.{check16, feed};
+ghost use Rattle.fcs.specs.CheckSequence.{check16, check32, feed};
 ghost use Rattle.link.specs.Agreed.{agreed, largestFrame, mostDecoded};
 ghost use Rattle.link.specs.Sender.{SenderEnd, load, next, seen};
 ghost use Rattle.link.specs.Receiver.{receive};
 ghost use Rattle.link.specs.declared.sender.Lane.the-variants.{Low as lowLane, High as highLane};
 ghost use Rattle.reader.specs.Reading.{readOn};
 ghost use Rattle.writer.specs.Writing.{writeOn, onto};
+ghost use Rattle.kutarehopa.specs.Layout.{settingsIn};
 ghost use Rattle.kutarehopa.specs.Calls.{noState, openReceiver, openSender, received, receiveCall, readTo, readCall, loaded, loadCall, sent, nextCall, wrote, writeCall};
 ghost use Rattle.kutarehopa.specs.Numbers.{NumbersComeApart, ReportsHaveNumbers};
 ghost use Rattle.kutarehopa.specs.Spelling.{PackedSpellsItself, PackedAgain, LooksNowhereElse};
 ghost use Rattle.kutarehopa.specs.AsTheCalls.{OpenedIsPacked, OnPackedStates, RunsAsLink, AsPackedAgain, NoCallMade, RefusedLeavesAll, NoOctetNoChange, NoStateIsOutOfBounds, RestStays};
 ghost use Rattle.kutarehopa.specs.Marked.{MarkedOctets, MarkedNumbers};
+use link::Settings;
 use link::receiver::Receiver;
 use link::sender::Lane;
 use link::sender::LoadAnswer;
@@ -41,37 +43,62 @@ pub(crate) fn number(low: u8, high: u8) -> u16
     low as u16 + 256 * (high as u16)
 }
 
-// Octets that spell no state are refused.
-fn no_state(short: bool) -> u32
-    ensures { λ r. ⌜ r ≡ noState short ⌝ }
+// The settings in the octets of either end.
+pub(crate) fn settings_in(state: &[u8; 64]) -> Settings
+    ensures { λ r. ⌜ r ≡ settingsIn (now (state .entry)) ⌝ }
 {
+    Settings {
+        octet: state[4],
+        width: state[1],
+    }
+}
+
+// Octets that spell no state are refused.
+fn no_state(settings: Settings, short: bool) -> u32
+    ensures { λ r. ⌜ r ≡ noState settings short ⌝ }
+{
+    if !settings.valid() {
+        return answers::refused(3);
+    }
     if short {
         return answers::refused(2);
     }
     answers::refused(3)
 }
 
-// The areas' least lengths are the same for all settings.
-fn short_for_receiver(first: usize, second: usize) -> bool
-    ensures { λ r. ⌜ ((settings : ℕ) → r ≡ (ltb first (mostDecoded (agreed settings)) || ltb second (mostDecoded (agreed settings)))) ⌝ }
+// Areas of these lengths are too short for a receiver,
+fn short_for_receiver(settings: Settings, first: usize, second: usize) -> bool
+    ensures { λ r. ⌜ r ≡ (ltb first (mostDecoded (agreed settings)) || ltb second (mostDecoded (agreed settings))) ⌝ }
 {
-    (first < link::MOST_DECODED) | (second < link::MOST_DECODED)
+    let most = settings.most_decoded();
+    (first < most) | (second < most)
 }
 
-fn short_for_sender(area: usize) -> bool
-    ensures { λ r. ⌜ ((settings : ℕ) → r ≡ ltb area (largestFrame (agreed settings))) ⌝ }
+// and for a sender.
+fn short_for_sender(settings: Settings, low: usize, high: usize) -> bool
+    ensures { λ r. ⌜ r ≡ (ltb low (largestFrame (agreed settings)) || ltb high (largestFrame (agreed settings))) ⌝ }
 {
-    area < link::LARGEST_FRAME
+    let largest = settings.largest_frame();
+    (low < largest) | (high < largest)
 }
 
 // ---- the receiver
 
 #[no_mangle]
-pub extern "C" fn kuta_receiver_open(state: &mut [u8; 64], settings: u8) -> u32
-    ensures { λ r. ⌜ record { answer = r; state = now (state .exit) } ≡ openReceiver (now (state .entry)) settings ⌝ }
+pub extern "C" fn kuta_receiver_open(state: &mut [u8; 64], settings: u8, width: u8) -> u32
+    ensures { λ r. ⌜ record { answer = r; state = now (state .exit) } ≡ openReceiver (now (state .entry)) (record { octet = settings; width = width }) ⌝ }
 {
-    receiver::pack(state, link::receiver::open(settings));
-    answers::done()
+    let opening = link::receiver::open(Settings {
+        octet: settings,
+        width,
+    });
+    match opening {
+        link::receiver::Opening::Opened(opened) => {
+            receiver::pack(state, opened);
+            answers::done()
+        }
+        link::receiver::Opening::Refused(n) => answers::refused(n),
+    }
 }
 
 // The call, on the state that the octets spell.
@@ -103,7 +130,11 @@ pub extern "C" fn kuta_receive(
         ≡ receiveCall (now (state .entry)) octet (now (first .entry)) (now (second .entry)) ⌝ }
 {
     if !receiver::spells(state) {
-        return no_state(short_for_receiver(first.len(), second.len()));
+        let settings = settings_in(state);
+        return no_state(
+            settings,
+            short_for_receiver(settings, first.len(), second.len()),
+        );
     }
     let before = receiver::unpack(state);
     received(state, before, octet, first, second)
@@ -148,7 +179,11 @@ pub extern "C" fn kuta_read_on(
         };
     }
     if !receiver::spells(state) {
-        let answer = no_state(short_for_receiver(first.len(), second.len()));
+        let settings = settings_in(state);
+        let answer = no_state(
+            settings,
+            short_for_receiver(settings, first.len(), second.len()),
+        );
         return Stretch { answer, octets: 1 };
     }
     let before = receiver::unpack(state);
@@ -158,11 +193,20 @@ pub extern "C" fn kuta_read_on(
 // ---- the sender
 
 #[no_mangle]
-pub extern "C" fn kuta_sender_open(state: &mut [u8; 64], settings: u8) -> u32
-    ensures { λ r. ⌜ record { answer = r; state = now (state .exit) } ≡ openSender (now (state .entry)) settings ⌝ }
+pub extern "C" fn kuta_sender_open(state: &mut [u8; 64], settings: u8, width: u8) -> u32
+    ensures { λ r. ⌜ record { answer = r; state = now (state .exit) } ≡ openSender (now (state .entry)) (record { octet = settings; width = width }) ⌝ }
 {
-    sender::pack(state, link::sender::open(settings));
-    answers::done()
+    let opening = link::sender::open(Settings {
+        octet: settings,
+        width,
+    });
+    match opening {
+        link::sender::Opening::Opened(opened) => {
+            sender::pack(state, opened);
+            answers::done()
+        }
+        link::sender::Opening::Refused(n) => answers::refused(n),
+    }
 }
 
 // A load, on the state that the octets spell.
@@ -187,7 +231,8 @@ fn load(state: &mut [u8; 64], lane: Lane, packet: &[u8], area: &mut [u8]) -> u32
         ≡ loadCall lane (now (state .entry)) (now (packet .entry)) (now (area .entry)) ⌝ }
 {
     if !sender::spells(state) {
-        return no_state(short_for_sender(area.len()));
+        let settings = settings_in(state);
+        return no_state(settings, area.len() < settings.largest_frame());
     }
     let before = sender::unpack(state);
     loaded(state, before, lane, packet, area)
@@ -232,7 +277,8 @@ pub extern "C" fn kuta_next(state: &mut [u8; 64], low: &[u8], high: &[u8]) -> u3
     ensures { λ r. ⌜ record { answer = r; state = now (state .exit) } ≡ nextCall (now (state .entry)) (now (low .entry)) (now (high .entry)) ⌝ }
 {
     if !sender::spells(state) {
-        return no_state(short_for_sender(low.len()) | short_for_sender(high.len()));
+        let settings = settings_in(state);
+        return no_state(settings, short_for_sender(settings, low.len(), high.len()));
     }
     let before = sender::unpack(state);
     sent(state, before, low, high)
@@ -280,7 +326,8 @@ pub extern "C" fn kuta_write_on(
         };
     }
     if !sender::spells(state) {
-        let answer = no_state(short_for_sender(low.len()) | short_for_sender(high.len()));
+        let settings = settings_in(state);
+        let answer = no_state(settings, short_for_sender(settings, low.len(), high.len()));
         return Stretch { answer, octets: 0 };
     }
     let before = sender::unpack(state);
@@ -289,12 +336,19 @@ pub extern "C" fn kuta_write_on(
 
 // ---- the check sequence
 
-// RFC 1662's function, under its name.
+// RFC 1662's functions, under their names.
 #[no_mangle]
 pub extern "C" fn pppfcs16(start: u16, octets: &[u8]) -> u16
     ensures { λ r. ⌜ r ≡ feed check16 start (now (octets .entry)) ⌝ }
 {
     fcs::pppfcs16(start, octets)
+}
+
+#[no_mangle]
+pub extern "C" fn pppfcs32(start: u32, octets: &[u8]) -> u32
+    ensures { λ r. ⌜ r ≡ feed check32 start (now (octets .entry)) ⌝ }
+{
+    fcs::pppfcs32(start, octets)
 }
 
 // What is claimed of this crate: each theorem that docs/DEMANDS.md names.

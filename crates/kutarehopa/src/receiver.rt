@@ -77,12 +77,13 @@ pub(crate) fn spells(state: &[u8; 64]) -> bool
 pub(crate) fn unpack(state: &[u8; 64]) -> Receiver
     ensures { λ r. ⌜ r ≡ receiverIn (now (state .entry)) ⌝ }
 {
+    let settings = crate::settings_in(state);
     let held = fragment(state[13], crate::number(state[14], state[15]));
     let last = last_block(state[22]);
     Receiver {
         zeros: state[21],
         resumed: state[24] == 1,
-        settings: state[4],
+        settings,
         left: state[20],
         framed: state[23] == 1,
         last,
@@ -99,16 +100,17 @@ pub(crate) fn pack(state: &mut [u8; 64], r: Receiver)
 {
     // as a slice it shows its length to the proof
     let _whole: &[u8] = state;
+    let settings = r.settings;
     let held = r.held;
     let last = r.last;
     let mark = held_octet(held);
     let count = held_count(held);
     let block = last_octet(last);
     state[0] = 1;
-    state[1] = 16;
+    state[1] = settings.width;
     state[2] = 0;
     state[3] = 8;
-    state[4] = r.settings;
+    state[4] = settings.octet;
     state[5] = 0;
     state[6] = 0;
     state[7] = 0;

@@ -48,6 +48,7 @@ pub(crate) fn spells(state: &[u8; 64]) -> bool
 pub(crate) fn unpack(state: &[u8; 64]) -> Sender
     ensures { λ r. ⌜ r ≡ senderIn (now (state .entry)) ⌝ }
 {
+    let settings = crate::settings_in(state);
     let on = on_line(state[5]);
     let low = LaneState {
         length: crate::number(state[8], state[9]),
@@ -65,7 +66,7 @@ pub(crate) fn unpack(state: &[u8; 64]) -> Sender
         on,
         suspended: state[6] == 1,
         cut: state[7] == 1,
-        settings: state[4],
+        settings,
     }
 }
 
@@ -75,15 +76,16 @@ pub(crate) fn pack(state: &mut [u8; 64], s: Sender)
 {
     // as a slice it shows its length to the proof
     let _whole: &[u8] = state;
+    let settings = s.settings;
     let on = s.on;
     let low = s.low;
     let high = s.high;
     let lane = line_octet(on);
     state[0] = 1;
-    state[1] = 16;
+    state[1] = settings.width;
     state[2] = 0;
     state[3] = 8;
-    state[4] = s.settings;
+    state[4] = settings.octet;
     state[5] = lane;
     state[6] = s.suspended as u8;
     state[7] = s.cut as u8;

@@ -14,12 +14,13 @@ use Rattle.cobs.specs.CodeBlocks.{flag, fromLine, meaning}
 use Rattle.cobs.specs.declared.Meaning.{Meaning}
 use Rattle.cobs.specs.declared.Meaning.the-variants.{InTable, NotAgreed, NoCode}
 use Rattle.cobs.proofs.Tests.{branch, decide}
-use Rattle.link.specs.Agreed.{Agreed, agreed, leastFrame, mostDecoded}
+use Rattle.link.specs.Agreed.{Agreed, agreed, leastFrame, mostDecoded, valid}
 use Rattle.link.specs.Answers.{Answer, done, octet, idle, quiet, packet, held, refused}
 use Rattle.link.specs.Receiver.{Fragment, nothingHeld, holds, Receiver, Working, ReceiverEnd, Receive, Ended, withDue, step2BeginBlock, isNoBlock, isD0, inBounds, step4Remember, step4Refuse, step3Write, step3Decode, step3Data, lastBlock, step2ByMeaning, step2Code, step1ResumeHeld, step1D1, step1FirstOctet, steps1To4, heldAfter, step5End, step5Hold, step5WithoutPhantom, step5Flag, atFlag, areaOf, work, putBack, flagged, receive}
 use Rattle.link.specs.Runs.{receives, standsFor}
 use Rattle.link.specs.Demands.{heldOctets, Alike, AreasLongEnough, reportAndPacket, AreasAside}
 use Rattle.link.proofs.Write.{length-write, take-write}
+use Rattle.link.proofs.ReceiverCases.{not-valid}
 use Rattle.link.proofs.ReceiverBounds.{Bounds, bounds, Ready, area-long, receive-flag, receive-other, receive-ready}
 use Rattle.link.proofs.Follow.{work-back, aside-back}
 
@@ -241,10 +242,11 @@ stands-by-areas (held n b) s r first second = refl
 stands-by-areas (refused n) s r first second = refl
 
 -- a state out of bounds
-refused-3 : (e : ReceiverEnd) → AreasLongEnough e → inBounds (agreed (e .state .settings)) (e .state) ≡ false → (x : ℕ) → receive e x ≡ record { report = refused 3; after = e }
+refused-3 : (e : ReceiverEnd) → valid (agreed (e .state .settings)) ≡ true → AreasLongEnough e → inBounds (agreed (e .state .settings)) (e .state) ≡ false → (x : ℕ) → receive e x ≡ record { report = refused 3; after = e }
 unfolding receive
-refused-3 e l out x =
+refused-3 e v l out x =
     rw (
+      v,
       le-ltb (length (e .first)) (mostDecoded (agreed (e .state .settings))) (l .first),
       le-ltb (length (e .second)) (mostDecoded (agreed (e .state .settings))) (l .second),
       out,
@@ -281,22 +283,26 @@ module _ (s : Receiver) (a₁ a₂ b₁ b₂ : List ℕ) where
 
     pair : AreasLongEnough one → AreasLongEnough two → (x : ℕ) → Pair (receive one x) (receive two x)
     pair l m x =
-        decide (inBounds g s)
+        decide (valid g)
+        (λ v. decide (inBounds g s)
         (λ k.
-        let z : Ready g one = record { agrees = refl; bounds = bounds g s k; first = l .first; second = l .second } in
-        let y : Ready g two = record { agrees = refl; bounds = bounds g s k; first = m .first; second = m .second } in
+        let z : Ready g one = record { agrees = refl; valid = v; bounds = bounds g s k; first = l .first; second = l .second } in
+        let y : Ready g two = record { agrees = refl; valid = v; bounds = bounds g s k; first = m .first; second = m .second } in
         decide (eqb x flag) (λ q. rw (eqb-true x flag q) (pair-flag z y)) (λ q. pair-other z y x (eqb-false x flag q)))
-        (λ k. rw (refused-3 one l k x, refused-3 two m k x) (record { tell = refl; after = alike }))
+        (λ k. rw (refused-3 one v l k x, refused-3 two v m k x) (record { tell = refl; after = alike })))
+        (λ v. rw (not-valid one x v, not-valid two x v) (record { tell = refl; after = alike }))
 
 -- areas that are long enough stay so
 lent-on : (e : ReceiverEnd) (x : ℕ) → AreasLongEnough e → AreasLongEnough (receive e x .after)
 lent-on e x l =
     let t = agreed (e .state .settings) in
-    decide (inBounds t (e .state))
+    decide (valid t)
+    (λ v. decide (inBounds t (e .state))
     (λ k.
-    let z = receive-ready t e x (record { agrees = refl; bounds = bounds t (e .state) k; first = l .first; second = l .second }) in
+    let z = receive-ready t e x (record { agrees = refl; valid = v; bounds = bounds t (e .state) k; first = l .first; second = l .second }) in
     record { first = rw (z .agrees) (z .first); second = rw (z .agrees) (z .second) })
-    (λ k. rw (refused-3 e l k x) l)
+    (λ k. rw (refused-3 e v l k x) l))
+    (λ v. rw (not-valid e x v) l)
 
 pub areas-aside : AreasAside
 unfolding receives

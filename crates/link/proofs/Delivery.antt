@@ -11,7 +11,7 @@ use borrow.Author.Tests.{le-ltb, lt-ltb, ne-eqb}
 use lib.ListN.{length, take, replicate}
 use lib.Seq.{take-nil, take-append-seam}
 use Rattle.cobs.specs.CodeBlocks.{frame, uninterrupted}
-use Rattle.link.specs.Agreed.{Agreed, agreed, leastPacket, largestFrame}
+use Rattle.link.specs.Agreed.{Settings, Agreed, agreed, leastPacket, largestFrame, valid}
 use Rattle.link.specs.Answers.{idle}
 use Rattle.link.specs.Sender.{Lane, low, high, LaneState, Out, closes, breaksOff, sends, sendsNothing, refuses, laneState, laneArea, outAnswer, loaded, Load, next, putFrame, load}
 use Rattle.link.specs.SenderParts.{SenderReady}
@@ -127,10 +127,10 @@ unfolding nextCalls
 next-calls zero = refl
 next-calls (suc n) = rw (next-calls n) (add-one n)
 
-ready-fresh : (t : ℕ) (al ah : List ℕ) → largestFrame (agreed t) ≤ length al → largestFrame (agreed t) ≤ length ah → SenderReady (freshStation t al ah .end)
-ready-fresh t al ah h k = record { low = h; high = k; bounds = bounds.in-bounds (agreed t) _ (sound-fresh t al ah .in·bounds) }
+ready-fresh : (t : Settings) → valid (agreed t) ≡ true → (al ah : List ℕ) → largestFrame (agreed t) ≤ length al → largestFrame (agreed t) ≤ length ah → SenderReady (freshStation t al ah .end)
+ready-fresh t v al ah h k = record { valid = v; low = h; high = k; bounds = bounds.in-bounds (agreed t) _ (sound-fresh t al ah .in·bounds) }
 
-module _ (t : ℕ) (al ah first second : List ℕ) (long : LongEnough t al ah first second) where
+module _ (t : Settings) (v : valid (agreed t) ≡ true) (al ah first second : List ℕ) (long : LongEnough t al ah first second) where
   abbrev fresh : Station
   fresh = freshStation t al ah
 
@@ -138,7 +138,7 @@ module _ (t : ℕ) (al ah first second : List ℕ) (long : LongEnough t al ah fi
   calls·for cs = receives (freshReceiver t first second) (writtenOctets (written fresh cs))
 
   ready : SenderReady (fresh .end)
-  ready = ready-fresh t al ah (long .low) (long .high)
+  ready = ready-fresh t v al ah (long .low) (long .high)
 
   -- the packets at a lane's octets are those that its octets close
   told : (l : Lane) (cs : List SenderCall) → packetsIn (atTrue (sentBy l (written fresh cs)) (calls·for cs)) ≡ closedOf l (written fresh cs)
@@ -147,7 +147,7 @@ module _ (t : ℕ) (al ah first second : List ℕ) (long : LongEnough t al ah fi
       let hs = calls·for cs in
       ap present
       (map-at-true packetIn (sentBy l es) hs
-      ∙ (ap (atTrue (sentBy l es)) (each-packet false es hs (sound-line t al ah first second (long .first) (long .second) cs .each)) ∙ closings-at-true (sentBy l es) es))
+      ∙ (ap (atTrue (sentBy l es)) (each-packet false es hs (sound-line t v al ah first second (long .first) (long .second) cs .each)) ∙ closings-at-true (sentBy l es) es))
 
   module _ (cs : List SenderCall) (n : ℕ) (enough : callsToEmpty (run fresh cs .end .state) ≤ n) where
     abbrev all : List SenderCall
@@ -177,10 +177,10 @@ module _ (t : ℕ) (al ah first second : List ℕ) (long : LongEnough t al ah fi
     reported : (l : Lane) → packetsIn (atTrue (sentBy l (written fresh all)) (calls·for all)) ≡ loadedInto l fresh cs
     reported l = told l all ∙ all-closed l
 
-pub nothing-lost : (settings : ℕ) → NothingLoadedIsLost settings
-nothing-lost t al ah first second long calls n enough = (
-  ends-idle t al ah first second long calls n enough,
-  reported t al ah first second long calls n enough,
+pub nothing-lost : (settings : Settings) → valid (agreed settings) ≡ true → NothingLoadedIsLost settings
+nothing-lost t v al ah first second long calls n enough = (
+  ends-idle t v al ah first second long calls n enough,
+  reported t v al ah first second long calls n enough,
 )
 
 -- ---- one packet
@@ -222,7 +222,7 @@ one-lane : (l : Lane) (es : List Written) → OneLane l es
 one-lane l [] = λ _. refl
 one-lane l (x ∷ es) = one-more l (x .out) x es refl (one-lane l es)
 
-module _ (t : ℕ) (al ah : List ℕ) (h : largestFrame (agreed t) ≤ length al) (k : largestFrame (agreed t) ≤ length ah) (p : List ℕ)
+module _ (t : Settings) (v : valid (agreed t) ≡ true) (al ah : List ℕ) (h : largestFrame (agreed t) ≤ length al) (k : largestFrame (agreed t) ≤ length ah) (p : List ℕ)
     (big : leastPacket ≤ length p) (small : length p ≤ agreed t .limit) where
   -- a fresh sender takes the packet
   takes : (l : Lane) → load l p (freshStation t al ah .end .state) (laneArea l (freshStation t al ah .end))
@@ -231,6 +231,7 @@ module _ (t : ℕ) (al ah : List ℕ) (h : largestFrame (agreed t) ≤ length al
   takes low =
       let g = agreed t in
       rw (
+        v,
         le-ltb (length al) (largestFrame g) h,
         bounds.in-bounds g _ (sound-fresh t al ah .in·bounds),
         le-ltb (length p) leastPacket big,
@@ -239,6 +240,7 @@ module _ (t : ℕ) (al ah : List ℕ) (h : largestFrame (agreed t) ≤ length al
   takes high =
       let g = agreed t in
       rw (
+        v,
         le-ltb (length ah) (largestFrame g) k,
         bounds.in-bounds g _ (sound-fresh t al ah .in·bounds),
         le-ltb (length p) leastPacket big,
@@ -303,7 +305,7 @@ module _ (t : ℕ) (al ah : List ℕ) (h : largestFrame (agreed t) ≤ length al
   sends-it l (suc n) =
       let calls : List SenderCall = replicate n nextOctet in
       let Sent : Station → List ℕ → Type 0 = λ w octets. SendsOf l octets (suc n) (written w (nextOctet ∷ calls)) in
-      let r = ready-put (freshStation t al ah) (ready-fresh t al ah h k) l p (record { free = empty-lane l; big = big; small = small }) in
+      let r = ready-put (freshStation t al ah) (ready-fresh t v al ah h k) l p (record { free = empty-lane l; big = big; small = small }) in
       let is : uninterrupted (agreed (holds l .end .state .settings) .zxe) (take (laneState l (holds l .end .state) .length) (laneArea l (holds l .end)))
       ≡ uninterrupted (agreed t .zxe) (frame (agreed t .check) p) = rw (settings-there l, frame-there l) in
       subst (λ (a : Load). Sent (loadedBy a l p (freshStation t al ah)) (uninterrupted (agreed t .zxe) (frame (agreed t .check) p))) (sym (takes l))
@@ -311,15 +313,15 @@ module _ (t : ℕ) (al ah : List ℕ) (h : largestFrame (agreed t) ≤ length al
       (rw (next-calls n, add-one n) at (sent-uninterrupted l (holds l) r (begins-next l) calls (λ _ _. loads-only high (afterNext (holds l)) [] n))))
 
 pub packet-uninterrupted : PacketUninterrupted
-packet-uninterrupted t al ah h k l p big small n = sends-it t al ah h k p big small l n
+packet-uninterrupted t v al ah h k l p big small n = sends-it t v al ah h k p big small l n
 
-pub delivery : (settings : ℕ) → Delivery settings
-delivery t al ah first second long l p big small =
+pub delivery : (settings : Settings) → valid (agreed settings) ≡ true → Delivery settings
+delivery t v al ah first second long l p big small =
     let n = length (frame (agreed t .check) p) in
     let k = n + 1 + n / 207 + 1 in
     let calls = loading l p ∷ [] in
-    let enough = calls-it t al ah (long .low) (long .high) p big small l in
-    let closed = all-closed t al ah first second long calls k enough in
-    sound-line t al ah first second (long .first) (long .second) (calls ++ replicate k nextOctet) .packets
-    ∙ (one-lane l (written (freshStation t al ah) (calls ++ replicate k nextOctet)) (closed (other l) ∙ loads-no-other t al ah (long .low) (long .high) p big small l)
-    ∙ (closed l ∙ loads-it t al ah (long .low) (long .high) p big small l))
+    let enough = calls-it t v al ah (long .low) (long .high) p big small l in
+    let closed = all-closed t v al ah first second long calls k enough in
+    sound-line t v al ah first second (long .first) (long .second) (calls ++ replicate k nextOctet) .packets
+    ∙ (one-lane l (written (freshStation t al ah) (calls ++ replicate k nextOctet)) (closed (other l) ∙ loads-no-other t v al ah (long .low) (long .high) p big small l)
+    ∙ (closed l ∙ loads-it t v al ah (long .low) (long .high) p big small l))

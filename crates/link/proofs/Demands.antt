@@ -6,11 +6,13 @@ use mathlib.Core.List.{List, [], _∷_, _++_, map, List·Memᴰ, List·Memᴰ·n
 use mathlib.Core.Option.{Option, none, some}
 use Prim.Native.Nat.{ℕ, _≤_}
 use native.Mathlib.Omega.{arith}
+use lib.Dec.{eqb}
 use lib.ListN.{length}
 use Rattle.fcs.specs.CheckSequence as check
-use Rattle.fcs.proofs.Laws.{sound16}
+use Rattle.fcs.proofs.Laws.{sound16, sound32}
 use Rattle.cobs.specs.CodeBlocks.{flag}
-use Rattle.link.specs.Agreed.{Agreed, agreed, mostDecoded}
+use Rattle.cobs.proofs.Tests.{branch}
+use Rattle.link.specs.Agreed.{Settings, Agreed, agreed, mostDecoded, valid}
 use Rattle.link.specs.Answers.{Answer, done, octet, idle, quiet, packet, held, refused}
 use Rattle.link.specs.Sender.{Lane, low, high, OnLine, noLane, sending, LaneState, Out, closes, breaksOff, sends, sendsNothing, refuses, next}
 use Rattle.link.specs.Receiver.{ReceiverEnd, Receive, isHeld, receive}
@@ -167,8 +169,8 @@ come-through s es hs a = record { each = a; packets = ap present (each-packet s 
 
 -- ---- the receiver before the chosen flag
 
-pub ready-fresh : (t : ℕ) (a b : List ℕ) → mostDecoded (agreed t) ≤ length a → mostDecoded (agreed t) ≤ length b → Ready (agreed t) (freshReceiver t a b)
-ready-fresh t a b h k = record { agrees = refl; bounds = out-of-frame-in (agreed t) t false receiver.nothingHeld tt; first = h; second = k }
+pub ready-fresh : (t : Settings) → valid (agreed t) ≡ true → (a b : List ℕ) → mostDecoded (agreed t) ≤ length a → mostDecoded (agreed t) ≤ length b → Ready (agreed t) (freshReceiver t a b)
+ready-fresh t v a b h k = record { agrees = refl; valid = v; bounds = out-of-frame-in (agreed t) t false receiver.nothingHeld tt; first = h; second = k }
 
 ready-all : (g : Agreed) (e : ReceiverEnd) (xs : List ℕ) → Ready g e → Ready g (received e xs)
 unfolding received
@@ -182,7 +184,7 @@ held-at-flag : (u : Bool) (q : LaneState) (a : List ℕ) (e : ReceiverEnd) → e
 held-at-flag true q a e r = refl
 held-at-flag false q a e r = (refl, record { plain = r; is = refl })
 
-module _ (g : Agreed) (ql qh : LaneState) (n z t : ℕ) (al ah : List ℕ) (bl bh : Option (List ℕ)) (e : ReceiverEnd) where
+module _ (g : Agreed) (ql qh : LaneState) (n z : ℕ) (t : Settings) (al ah : List ℕ) (bl bh : Option (List ℕ)) (e : ReceiverEnd) where
   start : (o : OnLine) (u c : Bool) → o ≡ noLane → Ready g e → e .state .framed ≡ false
       → Lock g bl u (not u && isHeld (e .state .held)) (station (sender ql qh n z o u c t) al ah bl bh) e
   start (sending l) u c q r out = absurd (let i : _≡_ {A = ℕ} 0 1 = cc in omega arith)
@@ -191,9 +193,9 @@ module _ (g : Agreed) (ql qh : LaneState) (n z t : ℕ) (al ah : List ℕ) (bl b
 -- ---- the demands
 
 -- the agreed check is sound, whatever the settings
-pub sound-check : (t : ℕ) → check.Sound (agreed t .check)
+pub sound-check : (t : Settings) → check.Sound (agreed t .check)
 unfolding agreed
-sound-check t = sound16
+sound-check t = branch check.Sound (eqb (t .width) 32) (λ _. sound32) (λ _. sound16)
 
 -- under way after a flag is a suspended low packet, and no other
 under-way-low : (o : OnLine) (u : Bool) → o ≡ noLane → underWayBy low o u ≡ u
@@ -204,7 +206,7 @@ under-way-high : (o : OnLine) (u : Bool) → o ≡ noLane → underWayBy high o 
 under-way-high noLane u e = refl
 under-way-high (sending l) u e = absurd (let i : _≡_ {A = ℕ} 0 1 = cc in omega arith)
 
-up-to-flag : (t : ℕ) (a b : List ℕ) (l : Lane) (before : List SenderCall)
+up-to-flag : (t : Settings) (a b : List ℕ) (l : Lane) (before : List SenderCall)
     → underWay l false (written (freshStation t a b) (before ++ (nextOctet ∷ []))) ≡ underWayIn l (afterNext (run (freshStation t a b) before))
 unfolding run
 up-to-flag t a b l before =
@@ -216,8 +218,8 @@ up-to-flag t a b l before =
     none-yet low = refl
     none-yet high = refl
 
-pub demand3 : (settings : ℕ) → Demand3 settings
-demand3 t a b first second h₁ h₂ before after noise f =
+pub demand3 : (settings : Settings) → valid (agreed settings) ≡ true → Demand3 settings
+demand3 t v·t a b first second h₁ h₂ before after noise f =
     let g = agreed t in
     let v = freshStation t a b in
     let w = run v before in
@@ -226,7 +228,7 @@ demand3 t a b first second h₁ h₂ before after noise f =
     let u = p .suspended in
     let e = received (freshReceiver t first second) noise in
     let e₁ = receive e flag .after in
-    let end = flag-ends g e (ready-all g _ noise (ready-fresh t first second h₁ h₂)) in
+    let end = flag-ends g e (ready-all g _ noise (ready-fresh t v·t first second h₁ h₂)) in
     let i : Sound g w = sound-run g v before (sound-fresh t a b) in
     let off : p .on ≡ noLane = flag-off g w i f in
     let is : underWay low false (written v (before ++ (nextOctet ∷ []))) ≡ u = up-to-flag t a b low before ∙ under-way-low (p .on) u off in
@@ -244,12 +246,12 @@ demand3 t a b first second h₁ h₂ before after noise f =
       through = rw is (come-through _ _ _ (all-expected (w₁ .lanes .low) u (not u && isHeld (e₁ .state .held)) es hs all));
     }
 
-pub sound-line : (settings : ℕ) → SoundLine settings
-sound-line t a b first second h₁ h₂ calls =
+pub sound-line : (settings : Settings) → valid (agreed settings) ≡ true → SoundLine settings
+sound-line t v a b first second h₁ h₂ calls =
     let e = freshReceiver t first second in
     let w = freshStation t a b in
     let k : Lock (agreed t) none false false w e =
-    record { ready = ready-fresh t first second h₁ h₂; whose = λ _. refl; along = (refl, (refl, record { plain = refl; is = refl })) } in
+    record { ready = ready-fresh t v first second h₁ h₂; whose = λ _. refl; along = (refl, (refl, record { plain = refl; is = refl })) } in
     let es = written w calls in
     let hs = receives e (writtenOctets es) in
     come-through false es hs (none-aside none false es hs (answered (agreed t) (sound-check t) none false false w calls e (sound-fresh t a b) k))

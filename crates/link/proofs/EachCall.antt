@@ -5,7 +5,7 @@ use mathlib.Core.List.{List, [], _∷_, _++_}
 use mathlib.Core.Logic.{_⊎_, inl, inr}
 use Prim.Native.Nat.{ℕ, _+_, _-_, _≤_, _<_}
 use native.Mathlib.Omega.{arith}
-use borrow.Author.Tests.{eqb-true, eqb-false, ltb-false, ne-eqb, not-true, not-false}
+use borrow.Author.Tests.{eqb-true, eqb-false, ltb-false, lt-ltb, le-ltb, ne-eqb, not-true, not-false}
 use lib.Dec.{ltb, eqb}
 use lib.ListN.{length, take, drop, replicate, length-append}
 use lib.Seq.{take-append-seam, drop-append-seam, take-take, drop-drop, take-at, drop-at, length-take-le}
@@ -15,16 +15,17 @@ use Rattle.cobs.specs.declared.Meaning.{Meaning}
 use Rattle.cobs.specs.declared.Meaning.the-variants.{InTable, NotAgreed, NoCode}
 use Rattle.cobs.proofs.Tests.{branch, decide}
 use Rattle.cobs.proofs.Exchange.{from-line}
-use Rattle.link.specs.Agreed.{Agreed, agreed, leastFrame, mostDecoded}
+use Rattle.link.specs.Agreed.{Agreed, agreed, leastFrame, mostDecoded, valid}
 use Rattle.link.specs.Answers.{Answer, done, octet, idle, quiet, packet, held, refused}
-use Rattle.link.specs.Sender.{Lane, low, high, OnLine, noLane, Sender, SenderEnd, closes, Step, emptyLane, laneState, outAnswer, putFrame, load, next}
+use Rattle.link.specs.Sender.{Lane, low, high, OnLine, noLane, Sender, SenderEnd, closes, Step, emptyLane, laneState, outAnswer, putFrame, load, next, Load}
 use Rattle.link.specs.Receiver.{Fragment, nothingHeld, holds, Receiver, Working, ReceiverEnd, Receive, Ended, isNoBlock, isD0, heldAfter, write, step4Refuse, step3Write, step3Decode, step3Data, step2ByMeaning, step2Code, step1ResumeHeld, step1D1, step1FirstOctet, steps1To4, step5End, step5WithoutPhantom, step5Flag, atFlag, work, putBack, flagged, receive}
 use Rattle.link.specs.Receiver as receiver
-use Rattle.link.specs.EachCall.{RefusedChangesNothing, IdleChangesNothing, Loads, DoneLoads, SettingsStay, ClosedIsEmpty, TakesIn, BlockOver, Resumes, HeldThen, NotHeldThen, EndsFrame, ReceivesSo}
-use Rattle.link.proofs.Tests.{if-so, if-not, not-below}
+use Rattle.link.specs.EachCall.{RefusedChangesNothing, IdleChangesNothing, Loads, DoneLoads, SettingsStay, ClosedIsEmpty, TakesIn, BlockOver, Resumes, HeldThen, NotHeldThen, EndsFrame, ReceivesSo, ValidFirst, AreasThenState}
+use Rattle.link.proofs.Tests.{if-so, if-not, not-below, one-short, none-short}
 use Rattle.link.proofs.Way.{Way, ends, cuts, warns, goes, sender, Turn, cut·due, idles, resumes·low, begins·high, begins·low, high·on, low·on, by-next}
 use Rattle.link.proofs.Write.{length-write, take-write}
 use Rattle.link.proofs.ReceiverBounds as heard
+use Rattle.link.proofs.ReceiverCases.{not-valid, too-short, out-of-bounds}
 use Rattle.link.proofs.ReadOn.{ready-of}
 use Rattle.link.proofs.Follow.{work-back, aside-back}
 use Rattle.link.proofs.Resumed.{D1-is}
@@ -153,16 +154,58 @@ unfolding receive
 receive-refused e x n h =
     let g = agreed (e .state .settings) in
     let P : Receive → Type 0 = λ r. r .report ≡ refused n → r .after ≡ e in
-    branch P (ltb (length (e .first)) (mostDecoded g) || ltb (length (e .second)) (mostDecoded g)) (λ _ _. refl)
+    branch P (not (valid g)) (λ _ _. refl)
+    (λ v. branch P (ltb (length (e .first)) (mostDecoded g) || ltb (length (e .second)) (mostDecoded g)) (λ _ _. refl)
     (λ k. branch P (not (receiver.inBounds g (e .state))) (λ _ _. refl)
     (λ i.
     let long = not-below (length (e .first)) (mostDecoded g) (length (e .second)) (mostDecoded g) k in
-    let z = ready-of e (not-false (receiver.inBounds g (e .state)) i, long .0, long .1) in
+    let z = ready-of e (record {
+      valid = not-false (valid g) v;
+      first = long .0;
+      second = long .1;
+      bounds = not-false (receiver.inBounds g (e .state)) i;
+    }) in
     branch P (eqb x flag)
     (λ _ q.
     let five : heard.OfFrame (refused n) = subst heard.OfFrame (ap (λ (r : Receive). r .report) (heard.receive-flag g e z) ∙ q) (heard.flag-ends g e z .tells) in
     absurd (omega arith))
-    (λ _ q. absurd (let j : _≡_ {A = ℕ} 0 1 = cc in omega arith))))
+    (λ _ q. absurd (let j : _≡_ {A = ℕ} 0 1 = cc in omega arith)))))
+
+-- ---- the order of the tests
+
+-- what each call answers
+abbrev loads : Load → Answer
+loads t = t .answer
+
+abbrev sends : Step → Answer
+sends t = outAnswer (t .out)
+
+abbrev hears : Receive → Answer
+hears h = h .report
+
+pub valid-first : ValidFirst
+valid-first =
+    record {
+      senderRefused = λ t n. rw n;
+      receiverRefused = λ t n. rw n;
+      load = λ l p s area n. ap loads (sent.load-invalid l p s area n);
+      next = λ e n. ap sends (sent.next-invalid e n);
+      receive = λ e x n. ap hears (not-valid e x n);
+      senderOpens = λ t v. rw v;
+      receiverOpens = λ t v. rw v;
+    }
+
+pub areas-then-state : AreasThenState
+areas-then-state =
+    record {
+      loadShort = λ l p s area v k. ap loads (sent.load-short l p s area v (lt-ltb _ _ k));
+      loadState = λ l p s area v k b. ap loads (sent.load-out-of-bounds l p s area v (le-ltb _ _ k) b);
+      loadLane = λ l p s area v k b h. ap loads (sent.load-held l p s area v (le-ltb _ _ k) b (lt-ltb _ _ h));
+      nextShort = λ e v k. ap sends (sent.next-short e v (one-short _ _ _ k));
+      nextState = λ e v k m b. ap sends (sent.next-out-of-bounds e v (none-short _ _ _ (k, m)) b);
+      receiveShort = λ e x v k. ap hears (too-short e x v (one-short _ _ _ k));
+      receiveState = λ e x v k m b. ap hears (out-of-bounds e x v (none-short _ _ _ (k, m)) b);
+    }
 
 pub refused-changes-nothing : RefusedChangesNothing
 refused-changes-nothing = record { load = load-refused; next = next-refused; receive = receive-refused }
@@ -408,9 +451,10 @@ unfolding receive
 receive-settings e x =
     let g = agreed (e .state .settings) in
     let P : Receive → Type 0 = λ h. h .after .state .settings ≡ e .state .settings in
-    branch P (ltb (length (e .first)) (mostDecoded g) || ltb (length (e .second)) (mostDecoded g)) (λ _. refl)
+    branch P (not (valid g)) (λ _. refl)
+    (λ _. branch P (ltb (length (e .first)) (mostDecoded g) || ltb (length (e .second)) (mostDecoded g)) (λ _. refl)
     (λ _. branch P (not (receiver.inBounds g (e .state))) (λ _. refl)
-    (λ _. branch P (eqb x flag) (λ _. flag-settings g (e .state) (work e .area)) (λ _. octet-settings g (work e) (fromLine x))))
+    (λ _. branch P (eqb x flag) (λ _. flag-settings g (e .state) (work e .area)) (λ _. octet-settings g (work e) (fromLine x)))))
 
 pub settings-stay : SettingsStay
 settings-stay =

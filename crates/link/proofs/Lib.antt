@@ -1,5 +1,6 @@
 -- Laws: what the proofs of the calls share (D, Area, ReceiverCases), and the theorems' (the others, in the order they rest on each other).
 pub mod Tests
+pub mod Agreed
 pub mod D
 pub mod Area
 pub mod Write

@@ -10,7 +10,7 @@ use Rattle.fcs.specs.CheckSequence as check
 use Rattle.cobs.specs.CodeBlocks.{frame, withPhantom, flag, toLine, choice}
 use Rattle.cobs.proofs.Exchange.{no-flag, from-line, turned-back}
 use Rattle.cobs.proofs.Table.{numbers}
-use Rattle.link.specs.Agreed.{Agreed, largestFrame, mostDecoded}
+use Rattle.link.specs.Agreed.{Settings, Agreed, largestFrame, mostDecoded}
 use Rattle.link.specs.Answers.{Answer, held, refused}
 use Rattle.link.specs.Sender.{Lane, low, high, OnLine, noLane, sending, LaneState, Out, closes, breaksOff, sends, sendsNothing, refuses, Step, laneD, loaded, next, putFrame}
 use Rattle.link.specs.Receiver.{Fragment, nothingHeld, Working, ReceiverEnd, Receive, isHeld, work, putBack, steps1To4, receive}
@@ -252,7 +252,7 @@ all-covered : (q : LaneState) (a : List ℕ) (n z : ℕ) (e : ReceiverEnd) → q
 all-covered q a n z e h r fo =
     follows-at (laneD q a) (work e) (omega (arith, r .room)) (omega (arith, r .room)) (omega (arith, r .room)) fo
 
-module _ (g : Agreed) (law : check.Sound (g .check)) (m : Option (List ℕ)) (ql qh : LaneState) (n z t : ℕ) (al ah : List ℕ) (bl bh : Option (List ℕ)) (e : ReceiverEnd) where
+module _ (g : Agreed) (law : check.Sound (g .check)) (m : Option (List ℕ)) (ql qh : LaneState) (n z : ℕ) (t : Settings) (al ah : List ℕ) (bl bh : Option (List ℕ)) (e : ReceiverEnd) where
   -- steps 3 to 6 of the high lane
   lock-high : (u b s : Bool) → (let v = sender ql qh n z (sending high) u false t in
       let w = station v al ah bl bh in
@@ -466,7 +466,7 @@ lock-next g law m b s w e i k =
     (r .on) (r .suspended) (r .cut) b s st v i k)
 
 -- a load leaves the two ends in step
-module _ (q·p : LaneState) (a·p : List ℕ) (b·p : Option (List ℕ)) (ql qh : LaneState) (n z t : ℕ) (al ah : List ℕ) (bl bh : Option (List ℕ)) (b s : Bool) (e : ReceiverEnd) where
+module _ (q·p : LaneState) (a·p : List ℕ) (b·p : Option (List ℕ)) (ql qh : LaneState) (n z : ℕ) (t : Settings) (al ah : List ℕ) (bl bh : Option (List ℕ)) (b s : Bool) (e : ReceiverEnd) where
   along-low : (o : OnLine) (u c : Bool) → bounds.LowOff o u c → Along o u c b s (station (sender ql qh n z o u c t) al ah bl bh) e
       → (b ≡ false) × Along o u c b s (station (sender q·p qh n z o u c t) a·p ah b·p bh) e
   along-low o u c bounds.low-off₁ k = (k .1 .0, k)

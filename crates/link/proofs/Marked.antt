@@ -15,7 +15,7 @@ use Rattle.cobs.specs.CodeBlocks.{flag, inRange, codeTable, meaning, toLine, fr
 use Rattle.cobs.proofs.Tests.{branch, decide}
 use Rattle.cobs.proofs.Exchange.{from-line}
 use Rattle.cobs.proofs.Table.{run-row, row-read}
-use Rattle.link.specs.Agreed.{Agreed, agreed, leastFrame, mostDecoded}
+use Rattle.link.specs.Agreed.{Agreed, agreed, leastFrame, mostDecoded, Settings, bits16, bits32, valid}
 use Rattle.link.specs.Answers.{refused}
 use Rattle.link.specs.Sender.{putFrame, load, step4BreakOff, step5Data, step6Code, steps3To6, step2NoLane, steps1To6, next}
 use Rattle.link.specs.Sender as sender
@@ -23,7 +23,7 @@ use Rattle.link.specs.Receiver.{Working, ReceiverEnd, Receive, Ended, is
 use Rattle.link.specs.Receiver as receiver
 use Rattle.link.specs.Runs.{afterLoad, afterNext, run, written, receives, notQuiet, received, underWay, leftAside}
 use Rattle.link.specs.Demands.{freshReceiver}
-use Rattle.link.specs.Marked.{Case, refusedTen, Says, receiverArea, cases, MarkedCases, AtWork}
+use Rattle.link.specs.Marked.{Case, refusedTen, Says, receiverArea, cases, MarkedCases, AtWork, freshEnd}
 use Rattle.link.proofs.Tests.{if-so, if-not, true-false}
 use Rattle.link.proofs.ReceiverBounds.{Ready, receive-flag, receive-other, receive-ready}
 use Rattle.link.proofs.Follow.{steps-code, code-is}
@@ -38,7 +38,7 @@ AllHold (c ∷ cs) = Says c × AllHold cs
 -- ---- (a) to (g) and (i): computed
 
 a-to-g : AllHold (take 7 cases)
-unfolding written receives notQuiet afterLoad afterNext agreed putFrame load step4BreakOff step5Data step6Code steps3To6 step2NoLane steps1To6 next sender.inBounds step3Decode step3Data step2ByMeaning step2Code step1ResumeHeld step1D1 step1FirstOctet steps1To4 step5WithoutPhantom step5Flag atFlag receive receiver.inBounds inRange codeTable meaning toLine fromLine leading choice _⊕_ bitStep bitSteps entry octetStep feed register lowFirst fcs good
+unfolding written receives notQuiet afterLoad afterNext agreed valid putFrame load step4BreakOff step5Data step6Code steps3To6 step2NoLane steps1To6 next sender.inBounds step3Decode step3Data step2ByMeaning step2Code step1ResumeHeld step1D1 step1FirstOctet steps1To4 step5WithoutPhantom step5Flag atFlag receive receiver.inBounds inRange codeTable meaning toLine fromLine leading choice _⊕_ bitStep bitSteps entry octetStep feed register lowFirst fcs good
 a-to-g = (lanes _ refl refl, (lanes _ refl refl, (lanes _ refl refl, (lanes _ refl refl, (refl, (refl, (refl, tt)))))))
 
 i : AllHold (drop 9 cases)
@@ -129,46 +129,56 @@ module _ (g : Agreed) (e : ReceiverEnd) (z : Ready g e) where
       (λ _ q. let n : _≡_ {A = ℕ} 14 10 = cc in omega arith)))))))
       (λ _ q. let n : _≡_ {A = ℕ} 0 1 = cc in omega arith))
 
--- 136 runs of 15 zeros, from a fresh receiver
-abbrev g·3 : Agreed
-g·3 = agreed 0x03
+-- 136 runs of 15 zeros, from a fresh receiver with ZXE, and z zeros more
+module _ (t : Settings) (v : valid (agreed t) ≡ true) (zxe : agreed t .zxe ≡ true) (room : 2040 ≤ mostDecoded (agreed t)) (z : ℕ) (least : 3 ≤ z) (most : z ≤ 15) where
+  abbrev g : Agreed
+  g = agreed t
 
-long-enough : mostDecoded g·3 ≤ length receiverArea
-unfolding agreed
-long-enough = omega (arith, length-replicate {A = ℕ} 2051 0)
+  abbrev line : List ℕ
+  line = replicate 136 0xDF
 
-zxe·3 : g·3 .zxe ≡ true
-unfolding agreed
-zxe·3 = refl
+  long-enough : mostDecoded g ≤ length (receiverArea t)
+  long-enough = omega (arith, length-replicate {A = ℕ} (mostDecoded g) 0)
 
-room·3 : mostDecoded g·3 ≡ 2051
-unfolding agreed
-room·3 = refl
+  many : Decoded g 2040 (received (freshEnd t) line)
+  many =
+      runs g zxe 136 0 (freshEnd t) (omega arith)
+      (record { ready = ready-fresh t v (receiverArea t) (receiverArea t) long-enough long-enough; clean = refl; left·0 = refl; count = refl })
 
-many : Decoded g·3 2040 (received (freshReceiver 0x03 receiverArea receiverArea) (replicate 136 0xDF))
-many =
-    runs g·3 zxe·3 136 0 (freshReceiver 0x03 receiverArea receiverArea) (omega (arith, room·3))
-    (record { ready = ready-fresh 0x03 receiverArea receiverArea long-enough long-enough; clean = refl; left·0 = refl; count = refl })
+  within : 2040 + z ≤ mostDecoded g → Says (refusedTen t (line ++ ((0xD0 + z) ∷ [])) false)
+  within h =
+      let e = received (freshEnd t) line in
+      let d = run-on g zxe 2040 z least most e many (omega arith) in
+      rw (then (freshEnd t) line (0xD0 + z)) (not-ten g (receive e (0xD0 + z) .after) (d .ready) (d .clean))
 
-h·DB : Says (refusedTen (replicate 136 0xDF ++ (0xDB ∷ [])) false)
-h·DB =
-    let e = received (freshReceiver 0x03 receiverArea receiverArea) (replicate 136 0xDF) in
-    let d = run-on g·3 zxe·3 2040 11 (omega arith) (omega arith) e many (omega (arith, room·3)) in
-    rw (then (freshReceiver 0x03 receiverArea receiverArea) (replicate 136 0xDF) 0xDB) (not-ten g·3 (receive e 0xDB .after) (d .ready) (d .clean))
+  over : mostDecoded g < 2040 + z → Says (refusedTen t (line ++ ((0xD0 + z) ∷ [])) true)
+  over h =
+      let e = received (freshEnd t) line in
+      rw (then (freshEnd t) line (0xD0 + z))
+      (told-refusal g (receive e (0xD0 + z) .after) (receive-ready g e (0xD0 + z) (many .ready)) 9
+      (run-over g zxe 2040 z least most e many (omega arith)))
 
-over : (z : ℕ) → 11 < z → z ≤ 15 → Says (refusedTen (replicate 136 0xDF ++ ((0xD0 + z) ∷ [])) true)
-over z h k =
-    let e = received (freshReceiver 0x03 receiverArea receiverArea) (replicate 136 0xDF) in
-    rw (then (freshReceiver 0x03 receiverArea receiverArea) (replicate 136 0xDF) (0xD0 + z))
-    (told-refusal g·3 (receive e (0xD0 + z) .after) (receive-ready g·3 e (0xD0 + z) (many .ready)) 9
-    (run-over g·3 zxe·3 2040 z (omega arith) k e many (omega (arith, room·3))))
+-- 2,051 octets, and more, with 16 bits; 137 times DF, for the examples
+h·DB : Says (refusedTen (bits16 0x03) (replicate 136 0xDF ++ (0xDB ∷ [])) false)
+unfolding agreed valid
+h·DB = within (bits16 0x03) refl refl (omega arith) 11 (omega arith) (omega arith) (omega arith)
 
-h·DC : Says (refusedTen (replicate 136 0xDF ++ (0xDC ∷ [])) true)
-h·DC = over 12 (omega arith) (omega arith)
+h·DC : Says (refusedTen (bits16 0x03) (replicate 136 0xDF ++ (0xDC ∷ [])) true)
+unfolding agreed valid
+h·DC = over (bits16 0x03) refl refl (omega arith) 12 (omega arith) (omega arith) (omega arith)
 
--- 137 times DF, for the examples
-pub many-over : Says (refusedTen (replicate 137 0xDF) true)
-many-over = over 15 (omega arith) (omega arith)
+pub many-over : Says (refusedTen (bits16 0x03) (replicate 137 0xDF) true)
+unfolding agreed valid
+many-over = over (bits16 0x03) refl refl (omega arith) 15 (omega arith) (omega arith) (omega arith)
+
+-- 2,053 and one more with 32 bits, for the examples
+pub most32 : Says (refusedTen (bits32 0x03) (replicate 136 0xDF ++ (0xDD ∷ [])) false)
+unfolding agreed valid
+most32 = within (bits32 0x03) refl refl (omega arith) 13 (omega arith) (omega arith) (omega arith)
+
+pub over32 : Says (refusedTen (bits32 0x03) (replicate 136 0xDF ++ (0xDE ∷ [])) true)
+unfolding agreed valid
+over32 = over (bits32 0x03) refl refl (omega arith) 14 (omega arith) (omega arith) (omega arith)
 
 -- ---- the table
 
@@ -189,5 +199,5 @@ marked = each cases all
 -- ---- demand 3 at work
 
 pub at-work : AtWork
-unfolding run received underWay leftAside written receives notQuiet afterLoad afterNext agreed putFrame load step4BreakOff step5Data step6Code steps3To6 step2NoLane steps1To6 next sender.inBounds step3Decode step3Data step2ByMeaning step2Code step1ResumeHeld step1D1 step1FirstOctet steps1To4 step5WithoutPhantom step5Flag atFlag receive receiver.inBounds inRange codeTable meaning toLine fromLine leading choice _⊕_ bitStep bitSteps entry octetStep feed register lowFirst fcs good
+unfolding run received underWay leftAside written receives notQuiet afterLoad afterNext agreed valid putFrame load step4BreakOff step5Data step6Code steps3To6 step2NoLane steps1To6 next sender.inBounds step3Decode step3Data step2ByMeaning step2Code step1ResumeHeld step1D1 step1FirstOctet steps1To4 step5WithoutPhantom step5Flag atFlag receive receiver.inBounds inRange codeTable meaning toLine fromLine leading choice _⊕_ bitStep bitSteps entry octetStep feed register lowFirst fcs good
 at-work = record { premise = refl; underWay = refl; line = refl; through = refl; aside = refl }

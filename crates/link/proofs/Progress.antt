@@ -11,7 +11,7 @@ use Rattle.cobs.specs.CodeBlocks.{frame, choice}
 use Rattle.cobs.specs.declared.Choice.{Choice}
 use Rattle.cobs.proofs.Tests.{branch, decide, and-right}
 use Rattle.cobs.proofs.Frame.{longest, longest-frame, longest-part, block-cost}
-use Rattle.link.specs.Agreed.{Agreed, agreed, largestFrame}
+use Rattle.link.specs.Agreed.{Settings, Agreed, agreed, largestFrame}
 use Rattle.link.specs.Answers.{idle, octet}
 use Rattle.link.specs.Sender.{Lane, low, high, OnLine, noLane, sending, LaneState, Sender, SenderEnd, Step, outAnswer, loaded, laneArea, laneD, steps1To6, next, putFrame}
 use Rattle.link.specs.SenderParts.{SenderReady}
@@ -38,7 +38,7 @@ unrefused e r =
     let g = agreed (e .state .settings) in
     let b = bounds.bounds g (e .state) (r .bounds) in
     record {
-      is = rw (le-ltb (length (e .low)) (largestFrame g) (r .low), le-ltb (length (e .high)) (largestFrame g) (r .high), r .bounds);
+      is = rw (r .valid, le-ltb (length (e .low)) (largestFrame g) (r .low), le-ltb (length (e .high)) (largestFrame g) (r .high), r .bounds);
       bounds = b;
       low = bounds.fits-area g (e .state .low) (e .low) (b .low) (r .low);
       high = bounds.fits-area g (e .state .high) (e .high) (b .high) (r .high);
@@ -63,6 +63,7 @@ ready-on w r =
     let k = bounds.next-keeps g e refl (unrefused e r .bounds) in
     let same : agreed (next e .state .settings) ≡ g = ap agreed (k .settings) in
     record {
+      valid = rw same (r .valid);
       low = rw same (r .low);
       high = rw same (r .high);
       bounds = rw same (bounds.in-bounds g (next e .state) (k .bounds));
@@ -82,6 +83,7 @@ ready-put w r low p k =
     let s = w .end .state in
     let g = agreed (s .settings) in
     record {
+      valid = r .valid;
       low = area-kept g p (w .end .low) (k .small) (r .low);
       high = r .high;
       bounds = bounds.in-bounds g _ (bounds.put-bounds g p (k .big) (k .small) low s (w .end .low) (k .free) (unrefused (w .end) r .bounds) .bounds);
@@ -90,6 +92,7 @@ ready-put w r high p k =
     let s = w .end .state in
     let g = agreed (s .settings) in
     record {
+      valid = r .valid;
       low = r .low;
       high = area-kept g p (w .end .high) (k .small) (r .high);
       bounds = bounds.in-bounds g _ (bounds.put-bounds g p (k .big) (k .small) high s (w .end .high) (k .free) (unrefused (w .end) r .bounds) .bounds);
@@ -112,7 +115,7 @@ way-idle g l s d st (cuts short e pre urgent f) q = not-idle _ q
 way-idle g l s d st (warns short e pre urgent f) q = not-idle _ q
 way-idle g l s d st (goes x pos n z short v free) q = not-idle _ q
 
-module _ (g : Agreed) (ql qh : LaneState) (n z t : ℕ) (al ah : List ℕ) where
+module _ (g : Agreed) (ql qh : LaneState) (n z : ℕ) (t : Settings) (al ah : List ℕ) where
   turn-idle : (o : OnLine) (u c : Bool) (st : Step) → Turn g ql qh n z t al ah o u c st → outAnswer (st .out) ≡ idle → (ql .length ≡ 0) × (qh .length ≡ 0)
   turn-idle o u c st cut·due q = not-idle _ q
   turn-idle o u c st (idles h k) q = (k, h)
@@ -243,7 +246,7 @@ or-true : (b : Bool) → (b || true) ≡ true
 or-true true = refl
 or-true false = refl
 
-module _ (g : Agreed) (ql qh : LaneState) (n z t : ℕ) (al ah : List ℕ) where
+module _ (g : Agreed) (ql qh : LaneState) (n z : ℕ) (t : Settings) (al ah : List ℕ) where
   -- steps 3 to 6 leave less to send
   high-less : (u : Bool) → qh .length ≤ length ah → bounds.Bounds g (sender ql qh n z (sending high) u false t) → (st : Step)
       → Way g high (sender ql qh n z (sending high) u false t) (laneD qh ah) st → dueIn g (st .state) < rest (qh .length) (qh .position) n z + 1 + owed ql + one u

@@ -10,20 +10,26 @@ use lib.Dec.{ltb}
 use lib.ListN.{length, set}
 use Rattle.cobs.specs.CodeBlocks.{flag, fromLine}
 use Rattle.cobs.proofs.Tests.{decide}
-use Rattle.link.specs.Agreed.{Agreed, agreed, mostDecoded}
+use Rattle.link.specs.Agreed.{Agreed, agreed, valid, mostDecoded}
 use Rattle.link.specs.Answers.{Answer, quiet, refused}
 use Rattle.link.specs.Receiver.{Working, ReceiverEnd, Receive, withDue, withDecoded, inBounds, work, putBack, receive}
 use Rattle.link.specs.ReceiverParts.{ReceiverReady}
 use Rattle.link.proofs.Tests.{not-below, none-short}
 use Rattle.link.proofs.Area.{stored}
 use Rattle.link.proofs.ReceiverBounds.{Ready, bounds, in-bounds, steps-data, receive-other, area-long, receive-ready}
-use Rattle.link.proofs.ReceiverCases.{inner-octet, too-short, out-of-bounds, skipped}
+use Rattle.link.proofs.ReceiverCases.{inner-octet, not-valid, too-short, out-of-bounds, skipped}
 
 receiver-ready : (g : Agreed) (e : ReceiverEnd) → Ready g e → ReceiverReady e
-receiver-ready g e z = rw (z .agrees) (in-bounds g (e .state) (z .bounds), z .first, z .second)
+receiver-ready g e z =
+    record {
+      valid = rw (z .agrees) (z .valid);
+      first = rw (z .agrees) (z .first);
+      second = rw (z .agrees) (z .second);
+      bounds = rw (z .agrees) (in-bounds g (e .state) (z .bounds));
+    }
 
 pub ready-of : (e : ReceiverEnd) → ReceiverReady e → Ready (agreed (e .state .settings)) e
-ready-of e a = record { agrees = refl; bounds = bounds _ _ (a .0); first = a .1; second = a .2 }
+ready-of e a = record { agrees = refl; valid = a .valid; bounds = bounds _ _ (a .bounds); first = a .first; second = a .second }
 
 -- so many octets at most are decoded
 pub deep : (e : ReceiverEnd) → ReceiverReady e → e .state .decoded ≤ mostDecoded (agreed (e .state .settings))
@@ -41,14 +47,18 @@ after-quiet e x q =
     let g = agreed (e .state .settings) in
     let m = mostDecoded g in
     let short = ltb (length (e .first)) m || ltb (length (e .second)) m in
-    decide short (λ s. refused-quiet 2 (ap answered (sym (too-short e x s)) ∙ q))
+    decide (valid g)
+    (λ v. decide short (λ s. refused-quiet 2 (ap answered (sym (too-short e x v s)) ∙ q))
     (λ s. decide (inBounds g (e .state))
-    (λ b. let l = not-below _ m _ m s in receiver-ready g (receive e x .after) (receive-ready g e x (ready-of e (b, l .0, l .1))))
-    (λ b. refused-quiet 3 (ap answered (sym (out-of-bounds e x s b)) ∙ q)))
+    (λ b.
+    let l = not-below _ m _ m s in
+    receiver-ready g (receive e x .after) (receive-ready g e x (ready-of e (record { valid = v; first = l .0; second = l .1; bounds = b }))))
+    (λ b. refused-quiet 3 (ap answered (sym (out-of-bounds e x v s b)) ∙ q))))
+    (λ v. refused-quiet 3 (ap answered (sym (not-valid e x v)) ∙ q))
 
 -- a refusal is remembered: an octet that is no flag is skipped
 pub skips : (e : ReceiverEnd) (x : ℕ) → ReceiverReady e → (e .state .refusal ≡ 0 → ⊥) → (x ≡ flag → ⊥) → receive e x ≡ record { report = quiet; after = e }
-skips e x a n h = skipped e x (none-short _ _ _ (a .1, a .2)) (a .0) h n
+skips e x a n h = skipped e x (a .valid) (none-short _ _ _ (a .first, a .second)) (a .bounds) h n
 
 -- the receiver after n data octets more of a block, which made `area` of the work area
 abbrev pub afterData : ℕ → List ℕ → ReceiverEnd → ReceiverEnd

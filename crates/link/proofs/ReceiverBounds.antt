@@ -14,7 +14,7 @@ use Rattle.cobs.specs.declared.Meaning.{Meaning}
 use Rattle.cobs.specs.declared.Meaning.the-variants.{InTable, NotAgreed, NoCode}
 use Rattle.cobs.proofs.Tests.{branch, decide, and-left, and-right}
 use Rattle.cobs.proofs.Table.{read-row, numbers}
-use Rattle.link.specs.Agreed.{Agreed, agreed, leastFrame, mostDecoded}
+use Rattle.link.specs.Agreed.{Settings, Agreed, agreed, valid, leastFrame, mostDecoded}
 use Rattle.link.specs.Answers.{Answer, done, octet, idle, quiet, packet, held, refused}
 use Rattle.link.specs.Receiver.{Fragment, nothingHeld, holds, LastBlock, noBlock, blockD0, otherBlock, Receiver, Working, ReceiverEnd, Receive, Ended, outOfFrame, withDue, step2BeginBlock, isNoBlock, isD0, heldOk, freshOk, lastBlockOk, inBounds, step4Remember, step4Refuse, step3Write, step3Decode, step3Data, lastBlock, step2ByMeaning, step2Code, step1ResumeHeld, step1D1, step1FirstOctet, steps1To4, heldAfter, step5End, step5Hold, step5WithoutPhantom, step5Flag, atFlag, areaOf, work, putBack, flagged, receive}
 use Rattle.link.proofs.Tests.{if-so, if-not, ands, true-false, false-true, or-cases}
@@ -154,6 +154,7 @@ steps-data g w x b n l = simp (eq-eqb _ _ n, in-frame g (w .state) b l, lt-ltb _
 -- a receiver of the agreed settings, in bounds, with areas that are long enough
 pub record Ready (g : Agreed) (e : ReceiverEnd) : Type 0 where
   pub agrees : agreed (e .state .settings) ≡ g
+  pub valid : valid g ≡ true
   pub bounds : Bounds g (e .state)
   pub first : mostDecoded g ≤ length (e .first)
   pub second : mostDecoded g ≤ length (e .second)
@@ -170,6 +171,7 @@ module _ (g : Agreed) (e : ReceiverEnd) (z : Ready g e) where
   receive-flag =
       rw (
         z .agrees,
+        z .valid,
         le-ltb (length (e .first)) (mostDecoded g) (z .first),
         le-ltb (length (e .second)) (mostDecoded g) (z .second),
         in-bounds g (e .state) (z .bounds),
@@ -180,6 +182,7 @@ module _ (g : Agreed) (e : ReceiverEnd) (z : Ready g e) where
   receive-other x other·x =
       rw (
         z .agrees,
+        z .valid,
         le-ltb (length (e .first)) (mostDecoded g) (z .first),
         le-ltb (length (e .second)) (mostDecoded g) (z .second),
         in-bounds g (e .state) (z .bounds),
@@ -196,6 +199,7 @@ module _ (g : Agreed) (e : ReceiverEnd) (z : Ready g e) where
   put-back-ready w f =
       record {
         agrees = f .agrees;
+        valid = z .valid;
         bounds = f .bounds;
         first = branch (λ a. mostDecoded g ≤ length a) (e .state .turn) (λ _. z .first) (λ _. f .long);
         second = branch (λ a. mostDecoded g ≤ length a) (e .state .turn) (λ _. f .long) (λ _. z .second);
@@ -430,7 +434,7 @@ pub record EndsWell (g : Agreed) (t : Ended) : Type 0 where
   pub out : t .state .framed ≡ false
   pub tells : OfFrame (t .report)
 
-pub out-of-frame-in : (g : Agreed) (t : ℕ) (second : Bool) (h : Fragment) → HeldOk g h → Bounds g (outOfFrame t second h)
+pub out-of-frame-in : (g : Agreed) (t : Settings) (second : Bool) (h : Fragment) → HeldOk g h → Bounds g (outOfFrame t second h)
 out-of-frame-in g t second h k =
     record {
       deep = omega arith;
@@ -486,7 +490,7 @@ flag-ends g e z =
     let t = flag-in g (e .state) (z .agrees) (z .bounds) (work e .area) in
     rw (receive-flag g e z)
     (record {
-      ready = record { agrees = t .agrees; bounds = t .bounds; first = z .first; second = z .second };
+      ready = record { agrees = t .agrees; valid = z .valid; bounds = t .bounds; first = z .first; second = z .second };
       out = t .out;
       tells = t .tells;
     })

@@ -11,7 +11,7 @@ use Rattle.fcs.specs.Notation.{if_then_else_}
 use Rattle.cobs.specs.CodeBlocks.{flag, fromLine, meaning}
 use Rattle.cobs.specs.declared.Meaning.the-variants.{InTable}
 use Rattle.cobs.proofs.Tests.{decide}
-use Rattle.link.specs.Agreed.{Agreed, agreed, mostDecoded}
+use Rattle.link.specs.Agreed.{Agreed, agreed, valid, mostDecoded}
 use Rattle.link.specs.Answers.{quiet, refused}
 use Rattle.link.specs.Receiver.{
   Receiver,
@@ -147,33 +147,37 @@ module _ (e : ReceiverEnd) (x : ℕ) where
   abbrev pub short : Bool
   short = ltb (length (e .first)) (mostDecoded settled) || ltb (length (e .second)) (mostDecoded settled)
 
-  pub too-short : short ≡ true → receive e x ≡ record { report = refused 2; after = e }
+  pub not-valid : valid settled ≡ false → receive e x ≡ record { report = refused 3; after = e }
   unfolding receive
-  too-short s = simp s
+  not-valid v = simp v
 
-  module _ (s : short ≡ false) where
+  pub too-short : valid settled ≡ true → short ≡ true → receive e x ≡ record { report = refused 2; after = e }
+  unfolding receive
+  too-short v s = simp (v, s)
+
+  module _ (v : valid settled ≡ true) (s : short ≡ false) where
     pub out-of-bounds : inBounds settled (e .state) ≡ false → receive e x ≡ record { report = refused 3; after = e }
     unfolding receive
-    out-of-bounds b = simp (s, b)
+    out-of-bounds b = simp (v, s, b)
 
     module _ (b : inBounds settled (e .state) ≡ true) where
       pub flag-first : x ≡ flag → e .state .turn ≡ false → receive e x ≡ flagged e (atFlag settled (e .state) (e .first))
       unfolding receive
-      flag-first h t = simp (s, b, eq-eqb _ _ h, t)
+      flag-first h t = simp (v, s, b, eq-eqb _ _ h, t)
 
       pub flag-second : x ≡ flag → e .state .turn ≡ true → receive e x ≡ flagged e (atFlag settled (e .state) (e .second))
       unfolding receive
-      flag-second h t = simp (s, b, eq-eqb _ _ h, t)
+      flag-second h t = simp (v, s, b, eq-eqb _ _ h, t)
 
       pub octet-first : (x ≡ flag → ⊥) → e .state .turn ≡ false
           → receive e x ≡ inFirst e (steps1To4 settled (record { state = e .state; area = e .first }) (fromLine x))
       unfolding receive
-      octet-first h t = simp (s, b, ne-eqb _ _ h, t)
+      octet-first h t = simp (v, s, b, ne-eqb _ _ h, t)
 
       pub octet-second : (x ≡ flag → ⊥) → e .state .turn ≡ true
           → receive e x ≡ inSecond e (steps1To4 settled (record { state = e .state; area = e .second }) (fromLine x))
       unfolding receive
-      octet-second h t = simp (s, b, ne-eqb _ _ h, t)
+      octet-second h t = simp (v, s, b, ne-eqb _ _ h, t)
 
       -- a refusal is remembered
       pub skipped : (x ≡ flag → ⊥) → (e .state .refusal ≡ 0 → ⊥) → receive e x ≡ record { report = quiet; after = e }

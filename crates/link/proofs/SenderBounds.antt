@@ -12,7 +12,7 @@ use Rattle.cobs.specs.CodeBlocks.{frame, choice}
 use Rattle.cobs.proofs.Tests.{branch, decide, and-left, and-right}
 use Rattle.cobs.proofs.Table.{numbers}
 use Rattle.cobs.proofs.Chosen.{Stands, chosen-at}
-use Rattle.link.specs.Agreed.{Agreed, agreed, leastPacket, leastFrame, largestFrame}
+use Rattle.link.specs.Agreed.{Settings, Agreed, agreed, leastPacket, leastFrame, largestFrame, valid}
 use Rattle.link.specs.Answers.{Answer, done, refused}
 use Rattle.link.specs.Sender.{Lane, low, high, OnLine, noLane, sending, LaneState, Sender, SenderEnd, refuses, Step, Load, laneState, loaded, laneD, laneOk, lineOk, laneOnLineOk, inBounds, putFrame, load, step1CutDue, next}
 use Rattle.link.proofs.Tests.{ands, true-false, false-true, not-below, or-cases}
@@ -193,7 +193,7 @@ module _ (g : Agreed) (q : LaneState) (a : List ℕ) (fits : q .length ≤ lengt
 
 -- ---- every step keeps the bounds, and the settings
 
-pub record Kept (g : Agreed) (t : ℕ) (s : Sender) : Type 0 where
+pub record Kept (g : Agreed) (t : Settings) (s : Sender) : Type 0 where
   pub settings : s .settings ≡ t
   pub bounds : Bounds g s
 
@@ -212,7 +212,7 @@ empty-ok g = record { size = λ k. absurd (k refl); place = omega arith }
 moved-ok : (g : Agreed) (q : LaneState) (pos : ℕ) → LaneOk g q → pos ≤ q .length + 1 → LaneOk g (record { length = q .length; position = pos })
 moved-ok g q pos h k = record { size = h .size; place = k }
 
-module _ (g : Agreed) (ql qh : LaneState) (n z t : ℕ) where
+module _ (g : Agreed) (ql qh : LaneState) (n z : ℕ) (t : Settings) where
   -- the same numbers with another line and other marks
   relined : {o : OnLine} {u c : Bool} (o′ : OnLine) (u′ c′ : Bool) → LineOk o′ ql qh n z u′ c′ → (u′ ≡ true → 0 < ql .length)
       → Bounds g (sender ql qh n z o u c t) → Bounds g (sender ql qh n z o′ u′ c′ t)
@@ -345,13 +345,14 @@ next-keeps g e ag b =
     let P : Step → Type 0 = λ st. Kept g (s .settings) (st .state) in
     let short = ltb (length (e .low)) (largestFrame g) || ltb (length (e .high)) (largestFrame g) in
     rw ag
-    (branch P short (λ _. record { settings = refl; bounds = b })
+    (branch P (not (valid g)) (λ _. record { settings = refl; bounds = b })
+    (λ _. branch P short (λ _. record { settings = refl; bounds = b })
     (λ k. branch P (not (inBounds g s)) (λ _. record { settings = refl; bounds = b })
     (λ _.
     let long = not-below (length (e .low)) (largestFrame g) (length (e .high)) (largestFrame g) k in
     turn-keeps g (s .low) (s .high) (s .left) (s .zeros) (s .settings) (e .low) (e .high) (long .0) (long .1)
     (s .on) (s .suspended) (s .cut) _
-    (turn g (s .low) (s .high) (s .left) (s .zeros) (s .settings) (e .low) (e .high) (s .on) (s .suspended) (s .cut)) b)))
+    (turn g (s .low) (s .high) (s .left) (s .zeros) (s .settings) (e .low) (e .high) (s .on) (s .suspended) (s .cut)) b))))
 
 -- ---- a lane that holds nothing is neither on the line nor suspended
 
@@ -396,13 +397,14 @@ pub by-load : (g : Agreed) (l : Lane) (p : List ℕ) (s : Sender) (a : List ℕ)
 unfolding load
 by-load g l p s a P ag same f =
     rw ag
-    (branch P (ltb (length a) (largestFrame g)) (λ _. same 2)
+    (branch P (not (valid g)) (λ _. same 3)
+    (λ _. branch P (ltb (length a) (largestFrame g)) (λ _. same 2)
     (λ _. branch P (not (inBounds g s)) (λ _. same 3)
     (λ _. branch P (loaded (laneState l s)) (λ _. same 4)
     (λ e₁. branch P (ltb (length p) leastPacket || ltb (g .limit) (length p)) (λ _. same 1)
     (λ e₂.
     let size = not-below (length p) leastPacket (g .limit) (length p) e₂ in
-    f (record { free = omega (arith, ltb-false 0 (laneState l s .length) e₁); big = size .0; small = size .1 }))))))
+    f (record { free = omega (arith, ltb-false 0 (laneState l s .length) e₁); big = size .0; small = size .1 })))))))
 
 -- the state of a lane that was just loaded
 abbrev pub q·p : Agreed → List ℕ → LaneState
@@ -467,23 +469,38 @@ load-answers P d r l p s area = by-load (agreed (s .settings)) l p s area (λ (t
 -- ---- refused 2 and 3
 
 module _ (l : Lane) (p : List ℕ) (s : Sender) (area : List ℕ) where
-  pub load-short : ltb (length area) (largestFrame (agreed (s .settings))) ≡ true → load l p s area ≡ record { answer = refused 2; state = s; area = area }
+  pub load-invalid : valid (agreed (s .settings)) ≡ false → load l p s area ≡ record { answer = refused 3; state = s; area = area }
   unfolding load
-  load-short k = simp k
+  load-invalid v = simp v
 
-  pub load-out-of-bounds : ltb (length area) (largestFrame (agreed (s .settings))) ≡ false → inBounds (agreed (s .settings)) s ≡ false
+  pub load-short : valid (agreed (s .settings)) ≡ true → ltb (length area) (largestFrame (agreed (s .settings))) ≡ true
+      → load l p s area ≡ record { answer = refused 2; state = s; area = area }
+  unfolding load
+  load-short v k = simp (v, k)
+
+  pub load-out-of-bounds : valid (agreed (s .settings)) ≡ true → ltb (length area) (largestFrame (agreed (s .settings))) ≡ false → inBounds (agreed (s .settings)) s ≡ false
       → load l p s area ≡ record { answer = refused 3; state = s; area = area }
   unfolding load
-  load-out-of-bounds k b = simp (k, b)
+  load-out-of-bounds v k b = simp (v, k, b)
+
+  pub load-held : valid (agreed (s .settings)) ≡ true → ltb (length area) (largestFrame (agreed (s .settings))) ≡ false → inBounds (agreed (s .settings)) s ≡ true
+      → loaded (laneState l s) ≡ true
+      → load l p s area ≡ record { answer = refused 4; state = s; area = area }
+  unfolding load
+  load-held v k b h = simp (v, k, b, h)
 
 module _ (e : SenderEnd) where
   abbrev short : Bool
   short = ltb (length (e .low)) (largestFrame (agreed (e .state .settings))) || ltb (length (e .high)) (largestFrame (agreed (e .state .settings)))
 
-  pub next-short : short ≡ true → next e ≡ record { out = refuses 2; state = e .state }
+  pub next-invalid : valid (agreed (e .state .settings)) ≡ false → next e ≡ record { out = refuses 3; state = e .state }
   unfolding next
-  next-short k = simp k
+  next-invalid v = simp v
 
-  pub next-out-of-bounds : short ≡ false → inBounds (agreed (e .state .settings)) (e .state) ≡ false → next e ≡ record { out = refuses 3; state = e .state }
+  pub next-short : valid (agreed (e .state .settings)) ≡ true → short ≡ true → next e ≡ record { out = refuses 2; state = e .state }
   unfolding next
-  next-out-of-bounds k b = simp (k, b)
+  next-short v k = simp (v, k)
+
+  pub next-out-of-bounds : valid (agreed (e .state .settings)) ≡ true → short ≡ false → inBounds (agreed (e .state .settings)) (e .state) ≡ false → next e ≡ record { out = refuses 3; state = e .state }
+  unfolding next
+  next-out-of-bounds v k b = simp (v, k, b)

@@ -9,7 +9,7 @@ use native.Mathlib.Omega.{arith}
 use lib.ListN.{length, take, drop, getD, length-take}
 use lib.Seq.{getD-drop, take-append-seam}
 use Rattle.cobs.specs.CodeBlocks.{frame}
-use Rattle.link.specs.Agreed.{Agreed, agreed, leastPacket}
+use Rattle.link.specs.Agreed.{Settings, Agreed, agreed, leastPacket}
 use Rattle.link.specs.Sender.{Lane, low, high, OnLine, noLane, sending, LaneState, Sender, Step, laneArea, laneD, putFrame}
 use Rattle.link.specs.Runs.{Station, freshStation, loadedBy, afterLoad, afterStep, afterNext, run, SenderCall, loading, nextOctet}
 use Rattle.link.proofs.Tests.{true-false, false-true}
@@ -97,7 +97,7 @@ module _ (g : Agreed) (q : LaneState) (a : List ℕ) (n z : ℕ) (fits : q .leng
         zero = λ i k l. sym (getD-drop (q .position) d i 0) ∙ ch .zero i k l;
       }
 
-module _ (g : Agreed) (ql qh : LaneState) (n z t : ℕ) (al ah : List ℕ) (bl bh : Option (List ℕ)) where
+module _ (g : Agreed) (ql qh : LaneState) (n z : ℕ) (t : Settings) (al ah : List ℕ) (bl bh : Option (List ℕ)) where
   -- steps 3 to 6 of the high lane
   pub sound-high : (u : Bool) → Sound g (station (sender ql qh n z (sending high) u false t) al ah bl bh)
       → (st : Step) → Way g high (sender ql qh n z (sending high) u false t) (laneD qh ah) st
@@ -236,7 +236,7 @@ pub loaded-stock : (g : Agreed) (p a : List ℕ) → leastPacket ≤ length p
 loaded-stock g p a h =
     record { big = h; long = refl; same = take-append-seam (frame (g .check) p) (drop (length (frame (g .check) p)) a) }
 
-module _ (g : Agreed) (p : List ℕ) (ql qh : LaneState) (n z t : ℕ) (al ah : List ℕ) (bl bh : Option (List ℕ)) where
+module _ (g : Agreed) (p : List ℕ) (ql qh : LaneState) (n z : ℕ) (t : Settings) (al ah : List ℕ) (bl bh : Option (List ℕ)) where
   abbrev a·p : List ℕ → List ℕ
   a·p a = frame (g .check) p ++ drop (length (frame (g .check) p)) a
 
@@ -294,7 +294,7 @@ sound-load g high p w s =
           (r .on) (r .suspended) (r .cut) (high-is-off g r (s .in·bounds) (k .free)) (s .line);
     })
 
-pub sound-fresh : (t : ℕ) (a b : List ℕ) → Sound (agreed t) (freshStation t a b)
+pub sound-fresh : (t : Settings) (a b : List ℕ) → Sound (agreed t) (freshStation t a b)
 sound-fresh t a b =
     record {
       agrees = refl;

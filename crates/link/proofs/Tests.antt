@@ -1,8 +1,9 @@
 -- Proofs by the value of a test, beside those of `cobs`.
 use mathlib.Core.Path.{_≡_, refl}
 use mathlib.Core.Bool.{Bool, true, false, cond, _&&_, _||_}
-use Prim.Native.Nat.{ℕ, _≤_}
-use borrow.Author.Tests.{ltb-false, le-ltb}
+use mathlib.Core.Logic.{_⊎_, ⊎-elim}
+use Prim.Native.Nat.{ℕ, _≤_, _<_}
+use borrow.Author.Tests.{ltb-false, lt-ltb, le-ltb}
 use lib.Dec.{ltb}
 pub use Rattle.cobs.proofs.Tests.{true-false, false-true}
 
@@ -33,6 +34,13 @@ or-cases false b e f g = g e
 -- two numbers, neither of them below its limit
 pub not-below : (a m b n : ℕ) → (ltb a m || ltb b n) ≡ false → (m ≤ a) × (n ≤ b)
 not-below a m b n e = (ltb-false a m (or-left (ltb a m) (ltb b n) e), ltb-false b n (or-right (ltb a m) (ltb b n) e))
+
+pub one-short : (m a b : ℕ) → (a < m) ⊎ (b < m) → (ltb a m || ltb b m) ≡ true
+one-short m a b = ⊎-elim (λ l. rw (lt-ltb a m l)) (λ l. rw (lt-ltb b m l) (or-true (ltb a m)))
+  where
+    or-true : (c : Bool) → (c || true) ≡ true
+    or-true true = refl
+    or-true false = refl
 
 pub none-short : (m a b : ℕ) → (m ≤ a) × (m ≤ b) → (ltb a m || ltb b m) ≡ false
 none-short m a b l = rw (le-ltb a m (l .0), le-ltb b m (l .1))

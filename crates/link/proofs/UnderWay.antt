@@ -6,7 +6,7 @@ use Prim.Native.Nat.{ℕ}
 use native.Mathlib.Omega.{arith}
 use Rattle.cobs.specs.CodeBlocks.{flag, toLine}
 use Rattle.cobs.proofs.Exchange.{no-flag}
-use Rattle.link.specs.Agreed.{Agreed}
+use Rattle.link.specs.Agreed.{Settings, Agreed}
 use Rattle.link.specs.Answers.{Answer, octet, idle, refused}
 use Rattle.link.specs.Sender.{Lane, low, high, OnLine, noLane, sending, LaneState, Out, closes, breaksOff, sends, sendsNothing, refuses, Step, outAnswer, laneD, next, putFrame}
 use Rattle.link.specs.Runs.{Station, underWayAfter, underWay, Written, writes, written, afterLoad, afterNext, run, SenderCall, loading, nextOctet}
@@ -46,7 +46,7 @@ pub lanes : (P : Lane → Type 0) → P low → P high → (l : Lane) → P l
 lanes P h k low = h
 lanes P h k high = k
 
-module _ (g : Agreed) (ql qh : LaneState) (n z t : ℕ) (d : List ℕ) where
+module _ (g : Agreed) (ql qh : LaneState) (n z : ℕ) (t : Settings) (d : List ℕ) where
   -- a lane goes on, or begins
   high-goes : (u : Bool) (st : Step) → Way g high (sender ql qh n z (sending high) u false t) d st → After (sending high) u st
   high-goes true st (ends over) = record { way = lanes _ refl refl; off = λ _. refl }
@@ -76,7 +76,7 @@ module _ (g : Agreed) (ql qh : LaneState) (n z t : ℕ) (d : List ℕ) where
   low-begins st (warns short e pre urgent f) = record { way = lanes _ refl refl; off = λ i. plain 0x02 i (λ q. omega arith) }
   low-begins st (goes x pos n′ z′ short v free) = record { way = lanes _ refl refl; off = λ i. plain (toLine x) i (no-flag x) }
 
-module _ (g : Agreed) (ql qh : LaneState) (n z t : ℕ) (al ah : List ℕ) where
+module _ (g : Agreed) (ql qh : LaneState) (n z : ℕ) (t : Settings) (al ah : List ℕ) where
   after-turn : (o : OnLine) (u c : Bool) (st : Step) → Turn g ql qh n z t al ah o u c st → bounds.Bounds g (sender ql qh n z o u c t) → After o u st
   after-turn noLane u c st cut·due b = true-false (b .line .2)
   after-turn (sending high) u c st cut·due b = true-false (b .line .1)

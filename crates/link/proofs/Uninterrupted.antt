@@ -11,7 +11,7 @@ use lib.Seq.{take-nil, length-take-le, drop-cons}
 use Rattle.cobs.specs.CodeBlocks.{withPhantom, toLine, choice, lineOctets, blocks, uninterrupted}
 use Rattle.cobs.proofs.Blocks.{on-line-nil, on-line-cons}
 use Rattle.cobs.proofs.Frame.{frame-sent, frame-next, frame-end}
-use Rattle.link.specs.Agreed.{Agreed, agreed}
+use Rattle.link.specs.Agreed.{Settings, Agreed, agreed}
 use Rattle.link.specs.Answers.{refused}
 use Rattle.link.specs.Sender.{Lane, low, high, OnLine, noLane, sending, LaneState, Sender, SenderEnd, Load, Step, Out, closes, sends, laneState, laneArea, laneD, withLane, withBlock, withLine, putFrame}
 use Rattle.link.specs.SenderParts.{SenderReady}
@@ -67,7 +67,7 @@ module _ (zxe : Bool) (f : List ℕ) where
 
 -- ---- a lane on the line
 
-module _ (g : Agreed) (ql qh : LaneState) (n z t : ℕ) (al ah : List ℕ) where
+module _ (g : Agreed) (ql qh : LaneState) (n z : ℕ) (t : Settings) (al ah : List ℕ) where
   abbrev end : OnLine → Bool → Bool → SenderEnd
   end o u c = record { state = sender ql qh n z o u c t; low = al; high = ah }
 

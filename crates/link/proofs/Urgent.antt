@@ -9,7 +9,7 @@ use native.Mathlib.Omega.{arith}
 use borrow.Author.Tests.{ltb-true, lt-ltb, le-ltb}
 use lib.Dec.{ltb}
 use lib.ListN.{replicate}
-use Rattle.link.specs.Agreed.{Agreed, agreed}
+use Rattle.link.specs.Agreed.{Settings, Agreed, agreed}
 use Rattle.link.specs.Answers.{done}
 use Rattle.link.specs.Sender.{Lane, low, high, OnLine, noLane, sending, LaneState, Sender, Out, closes, breaksOff, sends, sendsNothing, refuses, Step, laneD, load, next, putFrame}
 use Rattle.link.specs.SenderParts.{SenderReady}
@@ -30,7 +30,7 @@ way-high g s d st (cuts short e pre urgent f) = bounds.low-high e
 way-high g s d st (warns short e pre urgent f) = bounds.low-high e
 way-high g s d st (goes x pos n z short v free) = refl
 
-module _ (g : Agreed) (ql qh : LaneState) (n z t : ℕ) (al ah : List ℕ) where
+module _ (g : Agreed) (ql qh : LaneState) (n z : ℕ) (t : Settings) (al ah : List ℕ) where
   turn-free : (o : OnLine) (u c : Bool) (st : Step) → Turn g ql qh n z t al ah o u c st → bounds.Bounds g (sender ql qh n z o u c t) → o ≡ noLane → 0 < qh .length
       → isOf high (st .out) ≡ true
   turn-free noLane u c st cut·due b e h = true-false (b .line .2)
@@ -44,7 +44,7 @@ module _ (g : Agreed) (ql qh : LaneState) (n z t : ℕ) (al ah : List ℕ) where
 
 -- ---- with low on the line
 
-module _ (g : Agreed) (ql qh : LaneState) (n z t : ℕ) (al ah : List ℕ) (pre : g .pre ≡ true) (h : 0 < qh .length) (short : ql .position ≤ ql .length) where
+module _ (g : Agreed) (ql qh : LaneState) (n z : ℕ) (t : Settings) (al ah : List ℕ) (pre : g .pre ≡ true) (h : 0 < qh .length) (short : ql .position ≤ ql .length) where
   way-gives : (u : Bool) (d : List ℕ) (st : Step) → Way g low (sender ql qh n z (sending low) u false t) d st
       → st .out ≡ cond (ltb 0 n) breaksOff (sends low 0x02)
   way-gives u d st (ends over) = absurd (omega arith)
@@ -76,7 +76,7 @@ record Nearer (n : ℕ) (s : Sender) : Type 0 where
   before : 0 < away (s .on) (s .cut)
   waits : 0 < s .high .length
 
-module _ (g : Agreed) (ql qh : LaneState) (n z t : ℕ) (al ah : List ℕ) (pre : g .pre ≡ true) (h : 0 < qh .length) where
+module _ (g : Agreed) (ql qh : LaneState) (n z : ℕ) (t : Settings) (al ah : List ℕ) (pre : g .pre ≡ true) (h : 0 < qh .length) where
   way-nearer : (st : Step) → Way g low (sender ql qh n z (sending low) false false t) (laneD ql al) st → Nearer 3 (st .state)
   way-nearer st (ends over) = record { nearer = omega arith; before = omega arith; waits = h }
   way-nearer st (cuts short e p urgent f) = record { nearer = omega arith; before = omega arith; waits = h }
@@ -127,7 +127,7 @@ soon (suc k) w r pre h i j =
     (λ q.
     writes-later (next e .out) w _
     (soon k (afterNext w) (ready-on w r)
-    (ap (λ (n : ℕ). agreed n .pre) (bounds.next-keeps (agreed (s .settings)) e refl (u .bounds) .settings) ∙ pre)
+    (ap (λ (t : Settings). agreed t .pre) (bounds.next-keeps (agreed (s .settings)) e refl (u .bounds) .settings) ∙ pre)
     (q .waits) (q .before) (omega (arith, q .nearer))))
     (by-turn e r (λ st. (isOf high (st .out) ≡ true) ⊎ Nearer (away (s .on) (s .cut)) (st .state))
     (λ st t.
@@ -168,7 +168,7 @@ way-whole g l s d st off (cuts short e pre urgent f) q = true-false (sym pre ∙
 way-whole g l s d st off (warns short e pre urgent f) q = true-false (sym pre ∙ off)
 way-whole g l s d st off (goes x pos n z short v free) q = let i : _≡_ {A = ℕ} 0 1 = cc in omega arith
 
-module _ (g : Agreed) (ql qh : LaneState) (n z t : ℕ) (al ah : List ℕ) (bl bh : Option (List ℕ)) where
+module _ (g : Agreed) (ql qh : LaneState) (n z : ℕ) (t : Settings) (al ah : List ℕ) (bl bh : Option (List ℕ)) where
   turn-whole : (o : OnLine) (u c : Bool) (st : Step) → Turn g ql qh n z t al ah o u c st → Sound g (station (sender ql qh n z o u c t) al ah bl bh) → g .pre ≡ false
       → st .out ≡ breaksOff → ⊥
   turn-whole noLane u c st cut·due i off q = true-false (i .in·bounds .line .2)
@@ -222,7 +222,7 @@ record Until (b : Bool) (st : Step) : Type 0 where
   only : b ≡ true → MayFollow (st .out)
   still : brokenOffAfter b (st .out) ≡ true → st .state .suspended ≡ true
 
-module _ (g : Agreed) (ql qh : LaneState) (n z t : ℕ) (b : Bool) where
+module _ (g : Agreed) (ql qh : LaneState) (n z : ℕ) (t : Settings) (b : Bool) where
   high-until : (u : Bool) (d : List ℕ) → (b ≡ true → u ≡ true) → (st : Step) → Way g high (sender ql qh n z (sending high) u false t) d st → Until b st
   high-until u d h st (ends over) = record { only = λ _. inl refl; still = h }
   high-until u d h st (cuts short e pre urgent f) = bounds.low-high e

@@ -10,7 +10,7 @@ use lib.Dec.{ltb, eqb}
 use lib.ListN.{length, drop, getD}
 use Rattle.cobs.specs.CodeBlocks.{toLine, choice}
 use Rattle.cobs.proofs.Tests.{branch, and-left, and-right}
-use Rattle.link.specs.Agreed.{Agreed, agreed, largestFrame}
+use Rattle.link.specs.Agreed.{Settings, Agreed, agreed, largestFrame, valid}
 use Rattle.link.specs.Sender.{Lane, low, high, OnLine, noLane, sending, LaneState, Sender, SenderEnd, Step, closes, breaksOff, sends, sendsNothing, refuses, emptyLane, laneState, loaded, laneD, withLane, withBlock, withLine, withMarks, isLow, step1CutDue, step4BreakOff, step5Data, step6Code, steps3To6, step2NoLane, steps1To6, inBounds, next}
 use Rattle.link.proofs.Tests.{false-true}
 
@@ -93,11 +93,11 @@ module _ (g : Agreed) (s : Sender) (d : List ℕ) where
 -- ---- the first step that applies
 
 -- a sender by its parts
-abbrev pub sender : LaneState → LaneState → ℕ → ℕ → OnLine → Bool → Bool → ℕ → Sender
+abbrev pub sender : LaneState → LaneState → ℕ → ℕ → OnLine → Bool → Bool → Settings → Sender
 sender ql qh n z o suspended cut t =
     record { low = ql; high = qh; left = n; zeros = z; on = o; suspended = suspended; cut = cut; settings = t }
 
-module _ (g : Agreed) (ql qh : LaneState) (n z t : ℕ) (al ah : List ℕ) where
+module _ (g : Agreed) (ql qh : LaneState) (n z : ℕ) (t : Settings) (al ah : List ℕ) where
   -- By the lane on the line and the marks *suspended* and *cut due*: the cut; nothing; D1; a lane begins; a lane goes on.
   pub data Turn : OnLine → Bool → Bool → Step → Type 0 where
     cut·due : {o : OnLine} {u : Bool} → Turn o u true (step1CutDue (sender ql qh n z o u true t))
@@ -146,6 +146,7 @@ unfolding next
 by-next g e ag P same f =
     let s = e .state in
     rw ag
-    (branch P (ltb (length (e .low)) (largestFrame g) || ltb (length (e .high)) (largestFrame g)) (λ _. same 2)
+    (branch P (not (valid g)) (λ _. same 3)
+    (λ _. branch P (ltb (length (e .low)) (largestFrame g) || ltb (length (e .high)) (largestFrame g)) (λ _. same 2)
     (λ _. branch P (not (inBounds g s)) (λ _. same 3)
-    (λ _. f _ (turn g (s .low) (s .high) (s .left) (s .zeros) (s .settings) (e .low) (e .high) (s .on) (s .suspended) (s .cut)))))
+    (λ _. f _ (turn g (s .low) (s .high) (s .left) (s .zeros) (s .settings) (e .low) (e .high) (s .on) (s .suspended) (s .cut))))))

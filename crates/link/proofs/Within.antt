@@ -11,7 +11,7 @@ use lib.ListN.{length, take}
 use Rattle.fcs.specs.CheckSequence.{good}
 use Rattle.cobs.specs.CodeBlocks.{flag}
 use Rattle.cobs.proofs.Tests.{branch}
-use Rattle.link.specs.Agreed.{Agreed, agreed, leastFrame, mostDecoded}
+use Rattle.link.specs.Agreed.{Agreed, agreed, valid, leastFrame, mostDecoded}
 use Rattle.link.specs.Answers.{Answer, quiet, packet, held, refused}
 use Rattle.link.specs.Receiver.{Receiver, ReceiverEnd, Receive, Ended, isNoBlock, isD0, inBounds, step5WithoutPhantom, step5Flag, atFlag, work, flagged, receive}
 use Rattle.link.specs.EachCall.{Within, ReportsWithin}
@@ -56,23 +56,15 @@ within e x =
     let g = agreed (e .state .settings) in
     let most = mostDecoded g in
     let P : Receive → Type 0 = λ h. Within g (h .report) (h .after) in
-    branch P (ltb (length (e .first)) most || ltb (length (e .second)) most) (λ _. (omega arith, omega arith))
+    branch P (not (valid g)) (λ _. (omega arith, omega arith))
+    (λ _. branch P (ltb (length (e .first)) most || ltb (length (e .second)) most) (λ _. (omega arith, omega arith))
     (λ s. branch P (not (inBounds g (e .state))) (λ _. (omega arith, omega arith))
     (λ i.
     let long = not-below (length (e .first)) most (length (e .second)) most s in
     branch P (eqb x flag)
     (λ _. flag-within g e (branch (λ (l : List ℕ). most ≤ length l) (e .state .turn) (λ _. long .1) (λ _. long .0))
     (bounds g (e .state) (not-false (inBounds g (e .state)) i)))
-    (λ _. tt)))
-
--- the limit of the base, and what it lets a receiver decode
-pub limit-is : (settings : ℕ) → agreed settings .limit ≡ 2048
-unfolding agreed
-limit-is settings = refl
-
-pub most-is : (settings : ℕ) → mostDecoded (agreed settings) ≡ 2051
-unfolding agreed
-most-is settings = refl
+    (λ _. tt))))
 
 -- a receiver that is in bounds and has areas long enough refuses no call: what it refuses are frames
 module _ (g : Agreed) (r : Receiver) (b : Bounds g r) where
@@ -102,8 +94,8 @@ unfolding receive
 refuses-frames e ready x =
     let g = agreed (e .state .settings) in
     let P : Receive → Type 0 = λ h. (n : ℕ) → h .report ≡ refused n → 5 ≤ n in
-    rw (none-short (mostDecoded g) (length (e .first)) (length (e .second)) (ready .1, ready .2), ready .0)
-    (branch P (eqb x flag) (λ _. flag-of-frame g (e .state) (bounds g (e .state) (ready .0)) (work e .area))
+    rw (ready .valid, none-short (mostDecoded g) (length (e .first)) (length (e .second)) (ready .first, ready .second), ready .bounds)
+    (branch P (eqb x flag) (λ _. flag-of-frame g (e .state) (bounds g (e .state) (ready .bounds)) (work e .area))
     (λ _ n k. absurd (let z : _≡_ {A = ℕ} 0 1 = cc in omega arith)))
 
 -- a receiver's call answers Quiet, Packet, Held or a refusal
@@ -127,6 +119,7 @@ module _ (P : Answer → Type 0) (q : P quiet) (p : (inSecond : Bool) (n : ℕ) 
       let g = agreed (e .state .settings) in
       let most = mostDecoded g in
       let E : Receive → Type 0 = λ t. P (t .report) in
-      branch E (ltb (length (e .first)) most || ltb (length (e .second)) most) (λ _. r 2)
+      branch E (not (valid g)) (λ _. r 3)
+      (λ _. branch E (ltb (length (e .first)) most || ltb (length (e .second)) most) (λ _. r 2)
       (λ _. branch E (not (inBounds g (e .state))) (λ _. r 3)
-      (λ _. branch E (eqb x flag) (λ _. by-flag g (e .state) (work e .area)) (λ _. q)))
+      (λ _. branch E (eqb x flag) (λ _. by-flag g (e .state) (work e .area)) (λ _. q))))

@@ -2,6 +2,7 @@
 use mathlib.Core.Path.{_≡_, refl, sym, subst, ap, _∙_}
 use mathlib.Core.Bool.{true, false, not, _||_}
 use mathlib.Core.List.{List}
+use mathlib.Core.Option.{none}
 use Prim.Native.Nat.{ℕ, suc, _+_, _-_, _≤_, _<_}
 use native.Mathlib.Omega.{arith}
 use borrow.Author.Tests.{ne-eqb, not-false}
@@ -10,13 +11,14 @@ use lib.ListN.{length, getD}
 use Rattle.cobs.specs.CodeBlocks.{flag, toLine}
 use Rattle.cobs.proofs.Exchange.{no-flag}
 use Rattle.cobs.proofs.Tests.{branch}
-use Rattle.link.specs.Agreed.{agreed, largestFrame, mostDecoded}
+use Rattle.link.specs.Agreed.{agreed, largestFrame, mostDecoded, valid}
 use Rattle.link.specs.Answers.{octet}
 use Rattle.link.specs.Sender.{Lane, low, high, sending, Sender, SenderEnd, Step, Next, laneArea, laneState, inBounds, withBlock, positionUp, step5Data, outAnswer, next, seen}
 use Rattle.link.specs.SenderParts.{SenderReady}
+use Rattle.link.specs.Runs.{afterNext}
 use Rattle.link.proofs.D as D
 use Rattle.link.proofs.Tests.{not-below, none-short}
-use Rattle.link.proofs.InBounds.{keep-bounds}
+use Rattle.link.proofs.Progress.{ready-on}
 use Rattle.link.proofs.sender.Bounds.{low-on, high-on, low-sends, high-sends}
 
 -- ---- a call that is answered by an octet was not refused
@@ -27,20 +29,19 @@ ready-before e x =
     let s = e .state in
     let m = largestFrame (agreed (s .settings)) in
     let P : Step → Type 0 = λ st. octet x ≡ outAnswer (st .out) → SenderReady e in
-    branch P (ltb (length (e .low)) m || ltb (length (e .high)) m) (λ _ q. absurd (let z : _≡_ {A = ℕ} 0 1 = cc in omega arith))
+    branch P (not (valid (agreed (s .settings)))) (λ _ q. absurd (let z : _≡_ {A = ℕ} 0 1 = cc in omega arith))
+    (λ v. branch P (ltb (length (e .low)) m || ltb (length (e .high)) m) (λ _ q. absurd (let z : _≡_ {A = ℕ} 0 1 = cc in omega arith))
     (λ k. branch P (not (inBounds (agreed (s .settings)) s)) (λ _ q. absurd (let z : _≡_ {A = ℕ} 0 1 = cc in omega arith))
-    (λ i q. record { low = not-below (length (e .low)) m (length (e .high)) m k .0; high = not-below (length (e .low)) m (length (e .high)) m k .1; bounds = not-false (inBounds (agreed (s .settings)) s) i }))
+    (λ i q.
+    let long = not-below (length (e .low)) m (length (e .high)) m k in
+    record { valid = not-false (valid (agreed (s .settings))) v; low = long .0; high = long .1; bounds = not-false (inBounds (agreed (s .settings)) s) i })))
 
 -- and the state after it is in bounds again
 pub octet-ready : (e : SenderEnd) (x : ℕ) (t : Sender) → record { answer = octet x; state = t } ≡ seen (next e) → SenderReady (record { state = t; low = e .low; high = e .high })
-unfolding agreed
+unfolding afterNext
 octet-ready e x t p =
-    let b = ready-before e x (ap (λ (h : Next). h .answer) p) in
-    record {
-      low = b .low;
-      high = b .high;
-      bounds = subst (λ (u : Sender). inBounds (agreed (u .settings)) u ≡ true) (sym (ap (λ (h : Next). h .state) p)) (keep-bounds .next e (b .bounds));
-    }
+    subst (λ (u : Sender). SenderReady (record { state = u; low = e .low; high = e .high })) (sym (ap (λ (h : Next). h .state) p))
+    (ready-on (record { end = e; lanes = record { low = none; high = none } }) (ready-before e x (ap (λ (h : Next). h .answer) p)))
 
 -- ---- the stretch
 
@@ -70,13 +71,13 @@ module _ (n : ℕ) (e : SenderEnd) where
       let b = h .ready in
       let r = low-on s (b .bounds) (e .low) (b .low) (h .on) in
       let short = none-short _ _ _ (b .low, b .high) in
-      sym (ap seen (low-sends e short (b .bounds) (omega (arith, h .more)) (h .on) (h .alone refl))
+      sym (ap seen (low-sends e (b .valid) short (b .bounds) (omega (arith, h .more)) (h .on) (h .alone refl))
       ∙ data-sent low _ (e .low) (omega (arith, h .more)) (D.before (s .low .length) (e .low) (s .low .position) (omega (arith, h .more, r .inD))))
   first high h =
       let b = h .ready in
       let r = high-on s (b .bounds) (e .high) (b .high) (h .on) in
       let short = none-short _ _ _ (b .low, b .high) in
-      sym (ap seen (high-sends e short (b .bounds) (omega (arith, h .more)) (h .on))
+      sym (ap seen (high-sends e (b .valid) short (b .bounds) (omega (arith, h .more)) (h .on))
       ∙ data-sent high _ (e .high) (omega (arith, h .more)) (D.before (s .high .length) (e .high) (s .high .position) (omega (arith, h .more, r .inD))))
 
   -- the place is inside the area

@@ -6,7 +6,7 @@ use mathlib.Core.Path.{_≡_}
 use Prim.Native.Nat.{ℕ, _+_, _/_, _≤_}
 use lib.ListN.{length, take, replicate}
 use Rattle.cobs.specs.CodeBlocks.{frame, withPhantom, flag, Block, AllAllowed, decodedOctets, lineOctets}
-use Rattle.link.specs.Agreed.{agreed, leastPacket, largestFrame, mostDecoded}
+use Rattle.link.specs.Agreed.{Settings, agreed, valid, leastPacket, largestFrame, mostDecoded}
 use Rattle.link.specs.Answers.{Answer, octet, idle, refused}
 use Rattle.link.specs.Sender.{Lane, low, high, Sender, SenderEnd, outAnswer, load, next}
 use Rattle.link.specs.Sender as sender
@@ -28,12 +28,13 @@ pub record KeepBounds : Type 0 where
       → receiver.inBounds (agreed (receive e x .after .state .settings)) (receive e x .after .state) ≡ true
 
 -- a run from a fresh end is never refused 3
-abbrev pub freshReceiver : ℕ → List ℕ → List ℕ → ReceiverEnd
+abbrev pub freshReceiver : Settings → List ℕ → List ℕ → ReceiverEnd
 freshReceiver settings first second = record { state = receiver.openedReceiver settings; first = first; second = second }
 
 pub record NeverOutOfBounds : Type 0 where
-  pub sender : (settings : ℕ) (low high : List ℕ) (calls : List SenderCall) → List·Memᴰ (refused 3) (senderAnswers (freshStation settings low high) calls) → ⊥
-  pub receiver : (settings : ℕ) (first second : List ℕ) (line : List ℕ)
+  pub sender : (settings : Settings) → valid (agreed settings) ≡ true → (low high : List ℕ) (calls : List SenderCall)
+      → List·Memᴰ (refused 3) (senderAnswers (freshStation settings low high) calls) → ⊥
+  pub receiver : (settings : Settings) → valid (agreed settings) ≡ true → (first second : List ℕ) (line : List ℕ)
       → List·Memᴰ (refused 3) (map (λ (h : Receive). h .report) (receives (freshReceiver settings first second) line)) → ⊥
 
 -- ---- demands 2 and 3
@@ -45,9 +46,9 @@ pub record PacketsComeThrough (replaces : Bool) (es : List Written) (hs : List R
   pub packets : packetsIn hs ≡ closedPackets es
   pub refusals : refusalsIn hs ≡ []
 
--- Demand 2, any list of calls: between fresh ends of the same settings every closed packet is reported at its closing flag, in order,
--- nothing is refused, and no fragment takes another's place. No octet and no report is left out.
-abbrev pub SoundLine : ℕ → Type 0
+-- Demand 2, any list of calls: between fresh ends of the same settings, octet and width, every closed packet is reported at its closing flag,
+-- in order, nothing is refused, and no fragment takes another's place. No octet and no report is left out.
+abbrev pub SoundLine : Settings → Type 0
 SoundLine settings =
     (low high first second : List ℕ)
     → mostDecoded (agreed settings) ≤ length first
@@ -57,7 +58,7 @@ SoundLine settings =
     PacketsComeThrough false es (receives (freshReceiver settings first second) (writtenOctets es)))
 
 -- all areas are long enough for the calls of both ends to be taken
-pub record LongEnough (settings : ℕ) (lowArea highArea firstArea secondArea : List ℕ) : Type 0 where
+pub record LongEnough (settings : Settings) (lowArea highArea firstArea secondArea : List ℕ) : Type 0 where
   pub low : largestFrame (agreed settings) ≤ length lowArea
   pub high : largestFrame (agreed settings) ≤ length highArea
   pub first : mostDecoded (agreed settings) ≤ length firstArea
@@ -65,7 +66,7 @@ pub record LongEnough (settings : ℕ) (lowArea highArea firstArea secondArea : 
 
 -- Demand 2, nothing loaded is lost, nothing is late: after any list of calls, so many next-octet calls as `callsToEmpty` says, or more.
 -- Then the sender is idle; and the packets reported at the octets of either lane are those that were loaded into it, in order.
-abbrev pub NothingLoadedIsLost : ℕ → Type 0
+abbrev pub NothingLoadedIsLost : Settings → Type 0
 NothingLoadedIsLost settings =
     (low high first second : List ℕ)
     → LongEnough settings low high first second
@@ -80,7 +81,7 @@ NothingLoadedIsLost settings =
 
 -- Demand 2, one packet: loaded into either lane of a fresh sender it is delivered, unaltered and alone, by n + 1 + floor(n / 207) calls of
 -- next octet and one for the flag, n the octets of its frame.
-abbrev pub Delivery : ℕ → Type 0
+abbrev pub Delivery : Settings → Type 0
 Delivery settings =
     (low high first second : List ℕ)
     → LongEnough settings low high first second
@@ -128,11 +129,11 @@ pub record AfterChosenFlag (upTo : List Written) (w : Station) (e : ReceiverEnd)
 --   any octets on the line before that flag: `noise`
 --   the flag and all octets written after it arrive, once each and in order: the receiver's calls are for the flag and for those of `es`
 --   nobody else writes state or areas: each call has them as the call before left them
---   both ends have the same settings: both are opened with them
+--   both ends have the same settings, octet and width: both are opened with them
 --   the receiver's areas are long enough for its calls to be taken; were the sender's too short, no flag would be written
 --   the packet suspended at the flag is one that had sent an octet by then and is not closed: at the flags that end its frames, up to and
 --   with its closing flag, what is reported is left aside
-abbrev pub Demand3 : ℕ → Type 0
+abbrev pub Demand3 : Settings → Type 0
 Demand3 settings =
     (low high first second : List ℕ)
     → mostDecoded (agreed settings) ≤ length first

@@ -10,11 +10,58 @@ use lib.ListN.{length, take, drop}
 use Rattle.fcs.specs.Notation.{if_then_else_}
 use Rattle.fcs.specs.CheckSequence.{good}
 use Rattle.cobs.specs.CodeBlocks.{frame, flag, fromLine}
-use Rattle.link.specs.Agreed.{Agreed, agreed, leastPacket, mostDecoded}
+use Rattle.link.specs.Agreed.{Settings, Agreed, agreed, valid, leastPacket, largestFrame, mostDecoded}
 use Rattle.link.specs.Answers.{Answer, done, octet, idle, quiet, packet, held, refused}
-use Rattle.link.specs.Sender.{Lane, noLane, Sender, SenderEnd, Load, closes, emptyLane, openedSender, laneState, withLane, outAnswer, load, next}
-use Rattle.link.specs.Receiver.{Fragment, nothingHeld, holds, noBlock, Receiver, ReceiverEnd, Receive, outOfFrame, openedReceiver, isHeld, areaOf, receive}
+use Rattle.link.specs.Sender.{Lane, noLane, Sender, SenderEnd, Load, closes, emptyLane, openedSender, openSender, laneState, withLane, outAnswer, load, next}
+use Rattle.link.specs.Receiver.{Fragment, nothingHeld, holds, noBlock, Receiver, ReceiverEnd, Receive, outOfFrame, openedReceiver, openReceiver, isHeld, areaOf, receive}
+use Rattle.link.specs.Sender as sender
+use Rattle.link.specs.Receiver as receiver
 use Rattle.link.specs.ReceiverParts.{ReceiverReady}
+
+-- ---- the order of the tests
+
+-- Settings that are not valid: the opening of an end is refused 3, and so is every call on a state that has them, whatever else it is handed.
+-- Any other settings open an end.
+pub record ValidFirst : Type 0 where
+  pub senderRefused : (settings : Settings) → valid (agreed settings) ≡ false → openSender settings ≡ sender.refusedOpening 3
+  pub receiverRefused : (settings : Settings) → valid (agreed settings) ≡ false → openReceiver settings ≡ receiver.refusedOpening 3
+  pub load : (l : Lane) (p : List ℕ) (s : Sender) (area : List ℕ) → valid (agreed (s .settings)) ≡ false → load l p s area .answer ≡ refused 3
+  pub next : (e : SenderEnd) → valid (agreed (e .state .settings)) ≡ false → outAnswer (next e .out) ≡ refused 3
+  pub receive : (e : ReceiverEnd) (x : ℕ) → valid (agreed (e .state .settings)) ≡ false → receive e x .report ≡ refused 3
+  pub senderOpens : (settings : Settings) → valid (agreed settings) ≡ true → openSender settings ≡ sender.opened (openedSender settings)
+  pub receiverOpens : (settings : Settings) → valid (agreed settings) ≡ true → openReceiver settings ≡ receiver.opened (openedReceiver settings)
+
+-- With valid settings an area that is too short is refused 2, whatever the state; then a state out of bounds 3, whatever else is handed in; and
+-- of a load then a lane that holds a frame 4, whatever the packet. (What 1 refuses is `PacketLengths`.)
+pub record AreasThenState : Type 0 where
+  pub loadShort : (l : Lane) (p : List ℕ) (s : Sender) (area : List ℕ) → valid (agreed (s .settings)) ≡ true
+      → length area < largestFrame (agreed (s .settings))
+      → load l p s area .answer ≡ refused 2
+  pub loadState : (l : Lane) (p : List ℕ) (s : Sender) (area : List ℕ) → valid (agreed (s .settings)) ≡ true
+      → largestFrame (agreed (s .settings)) ≤ length area
+      → sender.inBounds (agreed (s .settings)) s ≡ false
+      → load l p s area .answer ≡ refused 3
+  pub loadLane : (l : Lane) (p : List ℕ) (s : Sender) (area : List ℕ) → valid (agreed (s .settings)) ≡ true
+      → largestFrame (agreed (s .settings)) ≤ length area
+      → sender.inBounds (agreed (s .settings)) s ≡ true
+      → 0 < laneState l s .length
+      → load l p s area .answer ≡ refused 4
+  pub nextShort : (e : SenderEnd) → valid (agreed (e .state .settings)) ≡ true
+      → (length (e .low) < largestFrame (agreed (e .state .settings))) ⊎ (length (e .high) < largestFrame (agreed (e .state .settings)))
+      → outAnswer (next e .out) ≡ refused 2
+  pub nextState : (e : SenderEnd) → valid (agreed (e .state .settings)) ≡ true
+      → largestFrame (agreed (e .state .settings)) ≤ length (e .low)
+      → largestFrame (agreed (e .state .settings)) ≤ length (e .high)
+      → sender.inBounds (agreed (e .state .settings)) (e .state) ≡ false
+      → outAnswer (next e .out) ≡ refused 3
+  pub receiveShort : (e : ReceiverEnd) (x : ℕ) → valid (agreed (e .state .settings)) ≡ true
+      → (length (e .first) < mostDecoded (agreed (e .state .settings))) ⊎ (length (e .second) < mostDecoded (agreed (e .state .settings)))
+      → receive e x .report ≡ refused 2
+  pub receiveState : (e : ReceiverEnd) (x : ℕ) → valid (agreed (e .state .settings)) ≡ true
+      → mostDecoded (agreed (e .state .settings)) ≤ length (e .first)
+      → mostDecoded (agreed (e .state .settings)) ≤ length (e .second)
+      → receiver.inBounds (agreed (e .state .settings)) (e .state) ≡ false
+      → receive e x .report ≡ refused 3
 
 -- ---- a refused call changes nothing
 
@@ -29,10 +76,10 @@ pub record RefusedChangesNothing : Type 0 where
 abbrev pub IdleChangesNothing : Type 0
 IdleChangesNothing = (e : SenderEnd) → outAnswer (next e .out) ≡ idle → next e .state ≡ e .state
 
--- and every call keeps the settings octet, all of it; an end is opened with it
+-- and every call keeps the settings, the octet with all its bits; an end is opened with them
 pub record SettingsStay : Type 0 where
-  pub openedSender : (settings : ℕ) → openedSender settings .settings ≡ settings
-  pub openedReceiver : (settings : ℕ) → openedReceiver settings .settings ≡ settings
+  pub openedSender : (settings : Settings) → openedSender settings .settings ≡ settings
+  pub openedReceiver : (settings : Settings) → openedReceiver settings .settings ≡ settings
   pub load : (l : Lane) (p : List ℕ) (s : Sender) (area : List ℕ) → load l p s area .state .settings ≡ s .settings
   pub next : (e : SenderEnd) → next e .state .settings ≡ e .state .settings
   pub receive : (e : ReceiverEnd) (x : ℕ) → receive e x .after .state .settings ≡ e .state .settings

@@ -1,5 +1,5 @@
--- Settings, codes, bounds and refusals, by example (document 01, "Code blocks", "Refusal table", and "Receiver" on what is held): one more table
--- beside the marked cases, and three sentences that are general.
+-- Settings, codes, bounds and refusals, by example (document 01, "Code blocks", "Refusal table", and "Receiver" on what is held; document 02,
+-- slip 1): one more table beside the marked cases, and three sentences that are general.
 use mathlib.Core.Path.{_≡_}
 use mathlib.Core.Bool.{Bool, true, false, _&&_}
 use mathlib.Core.List.{List, [], _∷_, _++_, List·Memᴰ}
@@ -10,37 +10,46 @@ use Rattle.fcs.specs.Notation.{if_then_else_}
 use Rattle.cobs.specs.CodeBlocks.{flag, meaning}
 use Rattle.cobs.specs.declared.Meaning.{Meaning}
 use Rattle.cobs.specs.declared.Meaning.the-variants.{InTable, NotAgreed, NoCode}
-use Rattle.link.specs.Agreed.{agreed, leastPacket, leastFrame, largestFrame, mostDecoded}
+use Rattle.link.specs.Agreed.{Settings, bits16, bits32, agreed, valid, leastPacket, leastFrame, largestFrame, mostDecoded}
 use Rattle.link.specs.Answers.{Answer, done, octet, quiet, refused}
-use Rattle.link.specs.Sender.{Lane, low, high, sending, Sender, SenderEnd, laneState, openedSender, withLane, withBlock, withLine, withMarks, outAnswer, inBounds, load, next}
-use Rattle.link.specs.Receiver.{Fragment, nothingHeld, holds, LastBlock, noBlock, blockD0, otherBlock, Receiver, ReceiverEnd, openedReceiver, outOfFrame, withDecoded, withDue, inFrame, receive}
+use Rattle.link.specs.Sender.{Lane, low, high, sending, Sender, SenderEnd, laneState, openedSender, openSender, withLane, withBlock, withLine, withMarks, outAnswer, inBounds, load, next}
+use Rattle.link.specs.Receiver.{Fragment, nothingHeld, holds, LastBlock, noBlock, blockD0, otherBlock, Receiver, ReceiverEnd, openedReceiver, openReceiver, outOfFrame, withDecoded, withDue, inFrame, receive}
+use Rattle.link.specs.Sender as sender
 use Rattle.link.specs.Receiver as receiver
 use Rattle.link.specs.Runs.{SenderCall, loading, nextOctet, freshStation, run, senderAnswers, written, writtenOctets, received}
 use Rattle.link.specs.Progress.{callsToEmpty}
 use Rattle.link.specs.Demands.{freshReceiver}
-use Rattle.link.specs.Marked.{Case, sent, reported, refusedTen, chosen, senderArea, receiverArea, packetOf, heldOf, refusedBy, digits}
+use Rattle.link.specs.Marked.{Case, sent, reported, refusedTen, chosen, receiverArea, freshSender, freshEnd, packetOf, heldOf, refusedBy, digits}
 use Rattle.link.specs.Marked as marked
 
 -- ---- general sentences
 
 -- of the settings octet only 01 and 02 are looked at
 abbrev pub OtherBitsIgnored : Type 0
-OtherBitsIgnored = (settings n : ℕ) → agreed (settings + 4 * n) ≡ agreed settings
+OtherBitsIgnored = (octet width n : ℕ) → agreed (record { octet = octet + 4 * n; width = width }) ≡ agreed (record { octet = octet; width = width })
 
--- the numbers of the base, whatever the settings
-pub record Limits (settings : ℕ) : Type 0 where
+-- the numbers of valid settings: the least frame, the largest one, and what is decoded at the most
+pub record Numbers (settings : Settings) (leastOctets largestOctets mostOctets : ℕ) : Type 0 where
+  pub taken : valid (agreed settings) ≡ true
   pub least : leastPacket ≡ 2
   pub most : agreed settings .limit ≡ 2048
-  pub leastFrame : leastFrame (agreed settings) ≡ 4
-  pub largestFrame : largestFrame (agreed settings) ≡ 2050
-  pub mostDecoded : mostDecoded (agreed settings) ≡ 2051
+  pub leastFrame : leastFrame (agreed settings) ≡ leastOctets
+  pub largestFrame : largestFrame (agreed settings) ≡ largestOctets
+  pub mostDecoded : mostDecoded (agreed settings) ≡ mostOctets
+
+-- those of 16 and of 32 bits, whatever the settings octet; there is no other width
+pub record Limits : Type 0 where
+  pub of16 : (octet : ℕ) → Numbers (bits16 octet) 4 2050 2051
+  pub of32 : (octet : ℕ) → Numbers (bits32 octet) 6 2052 2053
+  pub others : (settings : Settings) → (settings .width ≡ 16 → ⊥) → (settings .width ≡ 32 → ⊥) → valid (agreed settings) ≡ false
 
 -- A load into an empty lane, with an area and a state that are not refused: a packet of an allowed length is taken, any other refused 1.
 abbrev pub PacketLengths : Type 0
 PacketLengths =
     (l : Lane) (p : List ℕ) (s : Sender) (area : List ℕ)
     → (let g = agreed (s .settings) in
-    largestFrame g ≤ length area
+    valid g ≡ true
+    → largestFrame g ≤ length area
     → inBounds g s ≡ true
     → laneState l s .length ≡ 0
     → load l p s area .answer ≡ (if leb leastPacket (length p) && leb (length p) (g .limit) then done else refused 1))
@@ -51,6 +60,7 @@ PacketLengths =
 -- case: a case in the words of the marked ones
 -- reads: with ZXE or without, what the table says of this code
 -- puts: with these settings these calls of a fresh sender put so on the line
+-- opens: whether either end is opened with these settings, and else it is refused 3
 -- loads, asks, hears: what a call of load, next octet or the receiver answers
 -- calls: what calls of a fresh sender answer, with settings 03
 -- empties: with settings 03, behind these calls of a fresh sender so many of next octet are told to empty both lanes, and no fewer do: the
@@ -59,10 +69,11 @@ PacketLengths =
 -- leaves: what this receiver holds after these octets
 -- decodes: how many octets a receiver in this state has decoded after this one, and which refusal it remembers
 pub data Example : Type 0 where
-  bits : ℕ → Bool → Bool → Example
+  bits : Settings → Bool → Bool → Example
   case : Case → Example
   reads : Bool → ℕ → Meaning → Example
-  puts : ℕ → List SenderCall → List ℕ → Example
+  puts : Settings → List SenderCall → List ℕ → Example
+  opens : Settings → Bool → Example
   loads : Lane → List ℕ → Sender → List ℕ → Answer → Example
   asks : SenderEnd → Answer → Example
   hears : ReceiverEnd → ℕ → Answer → Example
@@ -77,18 +88,21 @@ abbrev pub Tells : Example → Type 0
 Tells (bits settings zxe pre) = (agreed settings .zxe ≡ zxe) × (agreed settings .pre ≡ pre)
 Tells (case c) = marked.Says c
 Tells (reads zxe c m) = meaning zxe c ≡ m
-Tells (puts settings cs line) = writtenOctets (written (freshStation settings senderArea senderArea) cs) ≡ line
+Tells (puts settings cs line) = writtenOctets (written (freshSender settings) cs) ≡ line
+Tells (opens settings true) =
+    (openSender settings ≡ sender.opened (openedSender settings)) × (openReceiver settings ≡ receiver.opened (openedReceiver settings))
+Tells (opens settings false) = (openSender settings ≡ sender.refusedOpening 3) × (openReceiver settings ≡ receiver.refusedOpening 3)
 Tells (loads l p s area a) = load l p s area .answer ≡ a
 Tells (asks e a) = outAnswer (next e .out) ≡ a
 Tells (hears e x a) = receive e x .report ≡ a
-Tells (calls cs answers) = senderAnswers (freshStation 0x03 senderArea senderArea) cs ≡ answers
+Tells (calls cs answers) = senderAnswers (freshSender (bits16 0x03)) cs ≡ answers
 Tells (empties cs n) =
-    let w = run (freshStation 0x03 senderArea senderArea) cs in
+    let w = run (freshSender (bits16 0x03)) cs in
     (callsToEmpty (w .end .state) ≡ n) × (outAnswer (next (run w (replicate (n - 1) nextOctet) .end) .out) ≡ octet flag)
 Tells (inBoundsS s ok) = inBounds (agreed (s .settings)) s ≡ ok
 Tells (inBoundsR r ok) = receiver.inBounds (agreed (r .settings)) r ≡ ok
 Tells (decodes r x n refusal) =
-    let t = receive (record { state = r; first = receiverArea; second = receiverArea }) x .after .state in
+    let t = receive (record { state = r; first = receiverArea (r .settings); second = receiverArea (r .settings) }) x .after .state in
     (t .decoded ≡ n) × (t .refusal ≡ refusal)
 Tells (leaves e octets h) = received e octets .state .held ≡ h
 
@@ -115,42 +129,54 @@ brokenOff = (0x06 ∷ 0x31 ∷ 0x7E ∷ []) ++ (0x05 ∷ 0x41 ∷ 0x42 ∷ 0xEF 
 abbrev inOnePiece : List ℕ
 inOnePiece = (0x06 ∷ 0x31 ∷ 0x32 ∷ 0x33 ∷ 0xB4 ∷ 0x9C ∷ 0x7E ∷ []) ++ (0x05 ∷ 0x41 ∷ 0x42 ∷ 0xEF ∷ 0x31 ∷ 0x7E ∷ [])
 
--- senders that are handed in: with an area one octet short, and with 208 data octets left
-abbrev shortArea : List ℕ
-shortArea = replicate 2049 0
+-- an area of so many octets
+abbrev area : ℕ → List ℕ
+area n = replicate n 0
 
+-- a sender that is handed in with 208 data octets left
 abbrev leftOver : SenderEnd
 leftOver =
     record {
-      state = withLine (sending low) (withBlock 208 0 (withLane low (record { length = 300; position = 0 }) (openedSender 0x03)));
-      low = senderArea;
-      high = senderArea;
+      state = withLine (sending low) (withBlock 208 0 (withLane low (record { length = 300; position = 0 }) (openedSender (bits16 0x03))));
+      low = area 2050;
+      high = area 2050;
     }
 
 -- a receiver in a block with so many data octets left
 abbrev inBlock : ℕ → ReceiverEnd
-inBlock n = record { state = withDue n 1 (inFrame otherBlock false 0 (openedReceiver 0x03)); first = receiverArea; second = receiverArea }
+inBlock n = record { state = withDue n 1 (inFrame otherBlock false 0 (openedReceiver (bits16 0x03))); first = area 2051; second = area 2051 }
 
 -- a receiver that holds three octets, without PRE
 abbrev holdsUnasked : ReceiverEnd
-holdsUnasked = record { state = outOfFrame 0x01 false (holds 3); first = receiverArea; second = receiverArea }
+holdsUnasked = record { state = outOfFrame (bits16 0x01) false (holds 3); first = area 2051; second = area 2051 }
 
 -- a sender with the low lane, or the high one, on the line: its length and position, data left and zeros due
 abbrev lowOn : ℕ → ℕ → ℕ → ℕ → Sender
 lowOn length position left zeros =
-    withLine (sending low) (withBlock left zeros (withLane low (record { length = length; position = position }) (openedSender 0x03)))
+    withLine (sending low) (withBlock left zeros (withLane low (record { length = length; position = position }) (openedSender (bits16 0x03))))
 
 abbrev highOn : ℕ → ℕ → ℕ → ℕ → Sender
 highOn length position left zeros =
-    withLine (sending high) (withBlock left zeros (withLane high (record { length = length; position = position }) (openedSender 0x03)))
+    withLine (sending high) (withBlock left zeros (withLane high (record { length = length; position = position }) (openedSender (bits16 0x03))))
 
 -- a sender with a lane off the line
 abbrev laneOff : Lane → ℕ → ℕ → Sender
-laneOff l length position = withLane l (record { length = length; position = position }) (openedSender 0x03)
+laneOff l length position = withLane l (record { length = length; position = position }) (openedSender (bits16 0x03))
 
 -- a receiver in a frame: last block, mark resumed, remembered refusal, decoded count, data left, zeros due
 abbrev framed : LastBlock → Bool → ℕ → ℕ → ℕ → ℕ → Receiver
-framed last resumed refusal decoded left zeros = withDue left zeros (withDecoded decoded (inFrame last resumed refusal (openedReceiver 0x03)))
+framed last resumed refusal decoded left zeros = withDue left zeros (withDecoded decoded (inFrame last resumed refusal (openedReceiver (bits16 0x03))))
+
+-- settings of a width that there is not
+abbrev bits24 : Settings
+bits24 = record { octet = 0x03; width = 24 }
+
+-- of 32 bits: a sender with a lane off the line, and a receiver in a frame
+abbrev laneOff32 : Lane → ℕ → Sender
+laneOff32 l length = withLane l (record { length = length; position = 0 }) (openedSender (bits32 0x03))
+
+abbrev framed32 : ℕ → ℕ → Receiver
+framed32 decoded left = withDue left 0 (withDecoded decoded (inFrame otherBlock false 0 (openedReceiver (bits32 0x03))))
 
 -- ---- the table
 
@@ -191,55 +217,55 @@ codeExamples =
 -- the settings octet
 abbrev pub settingsExamples : List Example
 settingsExamples =
-    bits 0x00 false false
-    ∷ bits 0x01 true false
-    ∷ bits 0x02 false true
-    ∷ bits 0x03 true true
+    bits (bits16 0x00) false false
+    ∷ bits (bits16 0x01) true false
+    ∷ bits (bits16 0x02) false true
+    ∷ bits (bits16 0x03) true true
     -- a packet of two zeros is sent in five octets with ZXE, whether PRE is on or off, and in six without (03 and 00: marked)
-    ∷ case (sent 0x01 (0x00 ∷ 0x00 ∷ []) (0xE0 ∷ 0x03 ∷ 0x47 ∷ 0x0F ∷ 0x7E ∷ []))
-    ∷ case (sent 0x02 (0x00 ∷ 0x00 ∷ []) (0x01 ∷ 0x01 ∷ 0x03 ∷ 0x47 ∷ 0x0F ∷ 0x7E ∷ []))
+    ∷ case (sent (bits16 0x01) (0x00 ∷ 0x00 ∷ []) (0xE0 ∷ 0x03 ∷ 0x47 ∷ 0x0F ∷ 0x7E ∷ []))
+    ∷ case (sent (bits16 0x02) (0x00 ∷ 0x00 ∷ []) (0x01 ∷ 0x01 ∷ 0x03 ∷ 0x47 ∷ 0x0F ∷ 0x7E ∷ []))
     -- with PRE low gives way
-    ∷ puts 0x00 urgent inOnePiece
-    ∷ puts 0x01 urgent inOnePiece
-    ∷ puts 0x02 urgent brokenOff
-    ∷ puts 0x03 urgent brokenOff
+    ∷ puts (bits16 0x00) urgent inOnePiece
+    ∷ puts (bits16 0x01) urgent inOnePiece
+    ∷ puts (bits16 0x02) urgent brokenOff
+    ∷ puts (bits16 0x03) urgent brokenOff
     -- a pair code wants ZXE of the receiver; with it, E0 alone is two zeros, and too short
-    ∷ case (reported 0x00 (0xE0 ∷ 0x7E ∷ []) (refusedBy 6 ∷ []))
-    ∷ case (reported 0x01 (0xE0 ∷ 0x7E ∷ []) (refusedBy 13 ∷ []))
-    ∷ case (reported 0x02 (0xE0 ∷ 0x7E ∷ []) (refusedBy 6 ∷ []))
-    ∷ case (reported 0x03 (0xE0 ∷ 0x7E ∷ []) (refusedBy 13 ∷ []))
+    ∷ case (reported (bits16 0x00) (0xE0 ∷ 0x7E ∷ []) (refusedBy 6 ∷ []))
+    ∷ case (reported (bits16 0x01) (0xE0 ∷ 0x7E ∷ []) (refusedBy 13 ∷ []))
+    ∷ case (reported (bits16 0x02) (0xE0 ∷ 0x7E ∷ []) (refusedBy 6 ∷ []))
+    ∷ case (reported (bits16 0x03) (0xE0 ∷ 0x7E ∷ []) (refusedBy 13 ∷ []))
     -- D1 wants PRE; with it, a fresh receiver has nothing to go on with
-    ∷ case (reported 0x00 (0xD1 ∷ 0x7E ∷ []) (refusedBy 6 ∷ []))
-    ∷ case (reported 0x01 (0xD1 ∷ 0x7E ∷ []) (refusedBy 6 ∷ []))
-    ∷ case (reported 0x02 (0xD1 ∷ 0x7E ∷ []) (refusedBy 8 ∷ []))
-    ∷ case (reported 0x03 (0xD1 ∷ 0x7E ∷ []) (refusedBy 8 ∷ []))
+    ∷ case (reported (bits16 0x00) (0xD1 ∷ 0x7E ∷ []) (refusedBy 6 ∷ []))
+    ∷ case (reported (bits16 0x01) (0xD1 ∷ 0x7E ∷ []) (refusedBy 6 ∷ []))
+    ∷ case (reported (bits16 0x02) (0xD1 ∷ 0x7E ∷ []) (refusedBy 8 ∷ []))
+    ∷ case (reported (bits16 0x03) (0xD1 ∷ 0x7E ∷ []) (refusedBy 8 ∷ []))
     -- a frame that ends in a block is held with PRE, and refused without
-    ∷ case (reported 0x00 (0x05 ∷ 0x31 ∷ 0x7E ∷ []) (refusedBy 11 ∷ []))
-    ∷ case (reported 0x01 (0x05 ∷ 0x31 ∷ 0x7E ∷ []) (refusedBy 11 ∷ []))
-    ∷ case (reported 0x02 (0x05 ∷ 0x31 ∷ 0x7E ∷ []) (heldOf 1 false ∷ []))
-    ∷ case (reported 0x03 (0x05 ∷ 0x31 ∷ 0x7E ∷ []) (heldOf 1 false ∷ []))
+    ∷ case (reported (bits16 0x00) (0x05 ∷ 0x31 ∷ 0x7E ∷ []) (refusedBy 11 ∷ []))
+    ∷ case (reported (bits16 0x01) (0x05 ∷ 0x31 ∷ 0x7E ∷ []) (refusedBy 11 ∷ []))
+    ∷ case (reported (bits16 0x02) (0x05 ∷ 0x31 ∷ 0x7E ∷ []) (heldOf 1 false ∷ []))
+    ∷ case (reported (bits16 0x03) (0x05 ∷ 0x31 ∷ 0x7E ∷ []) (heldOf 1 false ∷ []))
     ∷ []
 
 -- refusals of calls, 1 to 4
 abbrev pub callExamples : List Example
 callExamples =
     -- 1: a packet of one octet, of none; two octets are a packet
-    loads low (0x31 ∷ []) (openedSender 0x03) senderArea (refused 1)
-    ∷ loads high (0x31 ∷ []) (openedSender 0x03) senderArea (refused 1)
-    ∷ loads low [] (openedSender 0x03) senderArea (refused 1)
-    ∷ loads low (0x31 ∷ 0x32 ∷ []) (openedSender 0x03) senderArea done
-    ∷ loads high (0x31 ∷ 0x32 ∷ []) (openedSender 0x03) senderArea done
+    loads low (0x31 ∷ []) (openedSender (bits16 0x03)) (area 2050) (refused 1)
+    ∷ loads high (0x31 ∷ []) (openedSender (bits16 0x03)) (area 2050) (refused 1)
+    ∷ loads low [] (openedSender (bits16 0x03)) (area 2050) (refused 1)
+    ∷ loads low (0x31 ∷ 0x32 ∷ []) (openedSender (bits16 0x03)) (area 2050) done
+    ∷ loads high (0x31 ∷ 0x32 ∷ []) (openedSender (bits16 0x03)) (area 2050) done
     -- 2: an area one short, of load, of either lane, of either side of the receiver; it goes before 1 and 3
-    ∷ loads low (0x31 ∷ 0x32 ∷ []) (openedSender 0x03) shortArea (refused 2)
-    ∷ loads low (0x31 ∷ []) (leftOver .state) shortArea (refused 2)
-    ∷ asks (record { state = openedSender 0x03; low = shortArea; high = senderArea }) (refused 2)
-    ∷ asks (record { state = openedSender 0x03; low = senderArea; high = shortArea }) (refused 2)
-    ∷ hears (freshReceiver 0x03 (replicate 2050 0) receiverArea) 0x7E (refused 2)
-    ∷ hears (freshReceiver 0x03 receiverArea (replicate 2050 0)) 0x7E (refused 2)
-    ∷ asks (record { state = leftOver .state; low = senderArea; high = shortArea }) (refused 2)
-    ∷ hears (record { state = inBlock 208 .state; first = receiverArea; second = replicate 2050 0 }) 0x31 (refused 2)
+    ∷ loads low (0x31 ∷ 0x32 ∷ []) (openedSender (bits16 0x03)) (area 2049) (refused 2)
+    ∷ loads low (0x31 ∷ []) (leftOver .state) (area 2049) (refused 2)
+    ∷ asks (record { state = openedSender (bits16 0x03); low = area 2049; high = area 2050 }) (refused 2)
+    ∷ asks (record { state = openedSender (bits16 0x03); low = area 2050; high = area 2049 }) (refused 2)
+    ∷ hears (freshReceiver (bits16 0x03) (area 2050) (area 2051)) 0x7E (refused 2)
+    ∷ hears (freshReceiver (bits16 0x03) (area 2051) (area 2050)) 0x7E (refused 2)
+    ∷ asks (record { state = leftOver .state; low = area 2050; high = area 2049 }) (refused 2)
+    ∷ hears (record { state = inBlock 208 .state; first = area 2051; second = area 2050 }) 0x31 (refused 2)
     -- 3: 208 data octets left, where 207 are taken; it goes before 4 and 1
-    ∷ loads low (0x31 ∷ []) (leftOver .state) senderArea (refused 3)
+    ∷ loads low (0x31 ∷ []) (leftOver .state) (area 2050) (refused 3)
     ∷ asks leftOver (refused 3)
     ∷ hears (inBlock 208) 0x31 (refused 3)
     ∷ hears (inBlock 207) 0x31 quiet
@@ -275,7 +301,7 @@ senderBounds =
     ∷ inBoundsS (lowOn 0 0 0 0) false
     ∷ inBoundsS (highOn 0 0 0 0) false
     ∷ inBoundsS (withMarks true false (laneOff low 10 5)) true
-    ∷ inBoundsS (withMarks true false (openedSender 0x03)) false
+    ∷ inBoundsS (withMarks true false (openedSender (bits16 0x03))) false
     ∷ inBoundsS (withMarks true false (lowOn 10 5 0 0)) false
     -- a cut is due only with low on the line and no data left
     ∷ inBoundsS (withMarks false true (lowOn 10 5 0 0)) true
@@ -290,8 +316,8 @@ receiverBounds =
     -- the counts, data left and zeros due
     inBoundsR (framed otherBlock false 0 2051 0 0) true
     ∷ inBoundsR (framed otherBlock false 0 2052 0 0) false
-    ∷ inBoundsR (outOfFrame 0x03 true (holds 2051)) true
-    ∷ inBoundsR (outOfFrame 0x03 true (holds 2052)) false
+    ∷ inBoundsR (outOfFrame (bits16 0x03) true (holds 2051)) true
+    ∷ inBoundsR (outOfFrame (bits16 0x03) true (holds 2052)) false
     ∷ inBoundsR (framed blockD0 false 0 0 207 2) true
     ∷ inBoundsR (framed blockD0 false 0 0 208 2) false
     ∷ inBoundsR (framed blockD0 false 0 0 207 3) false
@@ -301,9 +327,9 @@ receiverBounds =
     ∷ inBoundsR (framed noBlock false 10 0 0 0) true
     ∷ inBoundsR (framed noBlock false 11 0 0 0) false
     -- outside a frame all else is as fresh
-    ∷ inBoundsR (withDecoded 1 (openedReceiver 0x03)) false
-    ∷ inBoundsR (withDue 1 0 (openedReceiver 0x03)) false
-    ∷ inBoundsR (withDue 0 1 (openedReceiver 0x03)) false
+    ∷ inBoundsR (withDecoded 1 (openedReceiver (bits16 0x03))) false
+    ∷ inBoundsR (withDue 1 0 (openedReceiver (bits16 0x03))) false
+    ∷ inBoundsR (withDue 0 1 (openedReceiver (bits16 0x03))) false
     -- in one, no block yet only behind D1; behind a block other than D0 data is left or something decoded
     ∷ inBoundsR (framed noBlock true 0 0 0 0) true
     ∷ inBoundsR (framed noBlock false 0 0 0 0) false
@@ -326,24 +352,24 @@ emptyExamples =
 -- refusals of frames, 5 to 14: document 01's examples, and some that tempt
 abbrev pub frameExamples : List Example
 frameExamples =
-    case (reported 0x03 (0xFF ∷ 0x03 ∷ 0xC0 ∷ 0x21 ∷ 0x7E ∷ []) (refusedBy 5 ∷ []))
+    case (reported (bits16 0x03) (0xFF ∷ 0x03 ∷ 0xC0 ∷ 0x21 ∷ 0x7E ∷ []) (refusedBy 5 ∷ []))
     -- (6: E0 7E, above)
-    ∷ case (reported 0x03 (0xD2 ∷ 0x7E ∷ []) (refusedBy 7 ∷ []))
-    ∷ case (reported 0x03 (0xD1 ∷ 0x01 ∷ 0x7E ∷ []) (refusedBy 8 ∷ []))
-    ∷ case (reported 0x03 (0x05 ∷ 0x31 ∷ 0x7E ∷ 0xD1 ∷ 0x7E ∷ []) (heldOf 1 false ∷ refusedBy 9 ∷ []))
-    ∷ case (refusedTen (replicate 137 0xDF) true)
+    ∷ case (reported (bits16 0x03) (0xD2 ∷ 0x7E ∷ []) (refusedBy 7 ∷ []))
+    ∷ case (reported (bits16 0x03) (0xD1 ∷ 0x01 ∷ 0x7E ∷ []) (refusedBy 8 ∷ []))
+    ∷ case (reported (bits16 0x03) (0x05 ∷ 0x31 ∷ 0x7E ∷ 0xD1 ∷ 0x7E ∷ []) (heldOf 1 false ∷ refusedBy 9 ∷ []))
+    ∷ case (refusedTen (bits16 0x03) (replicate 137 0xDF) true)
     -- (11: 05 31 7E without PRE, above)
-    ∷ case (reported 0x03 (0xD0 ∷ (replicate 207 0x31 ++ (0x7E ∷ []))) (refusedBy 12 ∷ []))
-    ∷ case (reported 0x03 (0xD3 ∷ 0x7E ∷ []) (refusedBy 13 ∷ []))
+    ∷ case (reported (bits16 0x03) (0xD0 ∷ (replicate 207 0x31 ++ (0x7E ∷ []))) (refusedBy 12 ∷ []))
+    ∷ case (reported (bits16 0x03) (0xD3 ∷ 0x7E ∷ []) (refusedBy 13 ∷ []))
     -- the length is looked at before the register
-    ∷ case (reported 0x03 (0x01 ∷ 0x7E ∷ []) (refusedBy 13 ∷ []))
-    ∷ case (reported 0x03 (0x05 ∷ 0x31 ∷ 0x31 ∷ 0x31 ∷ 0x31 ∷ 0x7E ∷ []) (refusedBy 14 ∷ []))
+    ∷ case (reported (bits16 0x03) (0x01 ∷ 0x7E ∷ []) (refusedBy 13 ∷ []))
+    ∷ case (reported (bits16 0x03) (0x05 ∷ 0x31 ∷ 0x31 ∷ 0x31 ∷ 0x31 ∷ 0x7E ∷ []) (refusedBy 14 ∷ []))
     -- FF and D1 are special as a frame's first octet only: later they are no codes
-    ∷ case (reported 0x03 (0x01 ∷ 0xFF ∷ 0x7E ∷ []) (refusedBy 7 ∷ []))
-    ∷ case (reported 0x03 (0x01 ∷ 0xD1 ∷ 0x7E ∷ []) (refusedBy 7 ∷ []))
-    ∷ case (reported 0x00 (0x01 ∷ 0xD1 ∷ 0x7E ∷ []) (refusedBy 7 ∷ []))
+    ∷ case (reported (bits16 0x03) (0x01 ∷ 0xFF ∷ 0x7E ∷ []) (refusedBy 7 ∷ []))
+    ∷ case (reported (bits16 0x03) (0x01 ∷ 0xD1 ∷ 0x7E ∷ []) (refusedBy 7 ∷ []))
+    ∷ case (reported (bits16 0x00) (0x01 ∷ 0xD1 ∷ 0x7E ∷ []) (refusedBy 7 ∷ []))
     -- inside a block of D0: it is the block that is not whole
-    ∷ case (reported 0x00 (0xD0 ∷ 0x31 ∷ 0x7E ∷ []) (refusedBy 11 ∷ []))
+    ∷ case (reported (bits16 0x00) (0xD0 ∷ 0x31 ∷ 0x7E ∷ []) (refusedBy 11 ∷ []))
     -- what would be too many is not decoded: a data octet may be the 2,051st; zeros are judged together, behind their block's last octet
     ∷ decodes (framed otherBlock false 0 2050 1 0) 0x31 2051 0
     ∷ decodes (framed otherBlock false 0 2051 1 0) 0x31 2051 10
@@ -356,46 +382,88 @@ frameExamples =
 abbrev pub heldExamples : List Example
 heldExamples =
     -- a resumed frame that is delivered leaves nothing held
-    case (reported 0x03 (broken ++ (resuming ++ (0x7E ∷ 0xD1 ∷ 0x01 ∷ 0x7E ∷ []))) (heldOf 3 false ∷ packetOf false digits ∷ refusedBy 8 ∷ []))
+    case (reported (bits16 0x03) (broken ++ (resuming ++ (0x7E ∷ 0xD1 ∷ 0x01 ∷ 0x7E ∷ []))) (heldOf 3 false ∷ packetOf false digits ∷ refusedBy 8 ∷ []))
     -- a resumed frame that is refused leaves nothing held
-    ∷ case (reported 0x03 (broken ++ (0xD1 ∷ 0x01 ∷ 0x7E ∷ 0xD1 ∷ 0x01 ∷ 0x7E ∷ [])) (heldOf 3 false ∷ refusedBy 13 ∷ refusedBy 8 ∷ []))
-    ∷ case (reported 0x03 (broken ++ (0xD1 ∷ 0x7E ∷ 0xD1 ∷ 0x01 ∷ 0x7E ∷ [])) (heldOf 3 false ∷ refusedBy 9 ∷ refusedBy 8 ∷ []))
+    ∷ case (reported (bits16 0x03) (broken ++ (0xD1 ∷ 0x01 ∷ 0x7E ∷ 0xD1 ∷ 0x01 ∷ 0x7E ∷ [])) (heldOf 3 false ∷ refusedBy 13 ∷ refusedBy 8 ∷ []))
+    ∷ case (reported (bits16 0x03) (broken ++ (0xD1 ∷ 0x7E ∷ 0xD1 ∷ 0x01 ∷ 0x7E ∷ [])) (heldOf 3 false ∷ refusedBy 9 ∷ refusedBy 8 ∷ []))
     -- any other refused frame leaves what is held: 13, 5, 7,
     ∷ case
-    (reported 0x03 (broken ++ ((0x01 ∷ 0x7E ∷ 0xFF ∷ 0x7E ∷ 0xD2 ∷ 0x7E ∷ []) ++ (resuming ++ (0x7E ∷ []))))
+    (reported (bits16 0x03) (broken ++ ((0x01 ∷ 0x7E ∷ 0xFF ∷ 0x7E ∷ 0xD2 ∷ 0x7E ∷ []) ++ (resuming ++ (0x7E ∷ []))))
     (heldOf 3 false ∷ refusedBy 13 ∷ refusedBy 5 ∷ refusedBy 7 ∷ packetOf false digits ∷ []))
     -- 6,
-    ∷ case (reported 0x02 (broken ++ ((0xE0 ∷ 0x7E ∷ []) ++ (resuming ++ (0x7E ∷ [])))) (heldOf 3 false ∷ refusedBy 6 ∷ packetOf false digits ∷ []))
+    ∷ case (reported (bits16 0x02) (broken ++ ((0xE0 ∷ 0x7E ∷ []) ++ (resuming ++ (0x7E ∷ [])))) (heldOf 3 false ∷ refusedBy 6 ∷ packetOf false digits ∷ []))
     -- 12,
     ∷ case
-    (reported 0x03 (broken ++ ((0xD0 ∷ (replicate 207 0x31 ++ (0x7E ∷ []))) ++ (resuming ++ (0x7E ∷ []))))
+    (reported (bits16 0x03) (broken ++ ((0xD0 ∷ (replicate 207 0x31 ++ (0x7E ∷ []))) ++ (resuming ++ (0x7E ∷ []))))
     (heldOf 3 false ∷ refusedBy 12 ∷ packetOf false digits ∷ []))
     -- and 14
     ∷ case
-    (reported 0x03 (broken ++ ((0x05 ∷ 0x31 ∷ 0x31 ∷ 0x31 ∷ 0x31 ∷ 0x7E ∷ []) ++ (resuming ++ (0x7E ∷ []))))
+    (reported (bits16 0x03) (broken ++ ((0x05 ∷ 0x31 ∷ 0x31 ∷ 0x31 ∷ 0x31 ∷ 0x7E ∷ []) ++ (resuming ++ (0x7E ∷ []))))
     (heldOf 3 false ∷ refusedBy 14 ∷ packetOf false digits ∷ []))
     -- so does any other delivered frame
     ∷ case
-    (reported 0x03 (broken ++ (whole ++ (0x7E ∷ (resuming ++ (0x7E ∷ [])))))
+    (reported (bits16 0x03) (broken ++ (whole ++ (0x7E ∷ (resuming ++ (0x7E ∷ [])))))
     (heldOf 3 false ∷ packetOf true digits ∷ packetOf false digits ∷ []))
     -- a D1 that is refused makes its frame a resumed one all the same: refused 6 it leaves nothing held, and so refused 8
     ∷ leaves holdsUnasked (0xD1 ∷ 0x7E ∷ []) nothingHeld
     ∷ leaves holdsUnasked (0xD2 ∷ 0x7E ∷ []) (holds 3)
-    ∷ leaves (freshReceiver 0x03 receiverArea receiverArea) (0xD1 ∷ 0x01 ∷ 0x7E ∷ []) nothingHeld
+    ∷ leaves (freshEnd (bits16 0x03)) (0xD1 ∷ 0x01 ∷ 0x7E ∷ []) nothingHeld
     -- Held in a resumed frame is not said to replace what it went on from, but what comes after it is
-    ∷ case (reported 0x03 (broken ++ (0xD1 ∷ 0x05 ∷ 0x34 ∷ 0x7E ∷ 0x05 ∷ 0x31 ∷ 0x7E ∷ [])) (heldOf 3 false ∷ heldOf 4 false ∷ heldOf 1 true ∷ []))
+    ∷ case (reported (bits16 0x03) (broken ++ (0xD1 ∷ 0x05 ∷ 0x34 ∷ 0x7E ∷ 0x05 ∷ 0x31 ∷ 0x7E ∷ [])) (heldOf 3 false ∷ heldOf 4 false ∷ heldOf 1 true ∷ []))
     -- a fragment of no octets is held, replaced, and gone on from
     ∷ case
-    (reported 0x03 (0x05 ∷ 0x7E ∷ 0x05 ∷ 0x7E ∷ 0xD1 ∷ (whole ++ (0x7E ∷ [])))
+    (reported (bits16 0x03) (0x05 ∷ 0x7E ∷ 0x05 ∷ 0x7E ∷ 0xD1 ∷ (whole ++ (0x7E ∷ [])))
     (heldOf 0 false ∷ heldOf 0 true ∷ packetOf true digits ∷ []))
     -- the flag of an empty frame leaves what is held
-    ∷ case (reported 0x03 (broken ++ (0x7E ∷ 0x7E ∷ (resuming ++ (0x7E ∷ [])))) (heldOf 3 false ∷ packetOf false digits ∷ []))
+    ∷ case (reported (bits16 0x03) (broken ++ (0x7E ∷ 0x7E ∷ (resuming ++ (0x7E ∷ [])))) (heldOf 3 false ∷ packetOf false digits ∷ []))
+    ∷ []
+
+-- the width, 32 bits and another (document 02, slip 1)
+abbrev pub widthExamples : List Example
+widthExamples =
+    case (sent (bits32 0x03) digits ((0x0E ∷ digits) ++ (0x26 ∷ 0x39 ∷ 0xF4 ∷ 0xCB ∷ 0x7E ∷ [])))
+    ∷ case (sent (bits32 0x03) (0x00 ∷ 0x00 ∷ []) (0xE0 ∷ 0x05 ∷ 0xFF ∷ 0x12 ∷ 0xD9 ∷ 0x41 ∷ 0x7E ∷ []))
+    ∷ case (sent (bits32 0x00) (0x00 ∷ 0x00 ∷ []) (0x01 ∷ 0x01 ∷ 0x05 ∷ 0xFF ∷ 0x12 ∷ 0xD9 ∷ 0x41 ∷ 0x7E ∷ []))
+    ∷ case (sent (bits32 0x03) (0x7E ∷ 0x7E ∷ []) (0x07 ∷ 0x00 ∷ 0x00 ∷ 0xBC ∷ 0x1A ∷ 0xD8 ∷ 0x47 ∷ 0x7E ∷ []))
+    -- either width's frame passes only the check of its own
+    ∷ case (reported (bits32 0x03) ((0x0E ∷ digits) ++ (0x26 ∷ 0x39 ∷ 0xF4 ∷ 0xCB ∷ 0x7E ∷ [])) (packetOf false digits ∷ []))
+    ∷ case (reported (bits16 0x03) ((0x0E ∷ digits) ++ (0x26 ∷ 0x39 ∷ 0xF4 ∷ 0xCB ∷ 0x7E ∷ [])) (refusedBy 14 ∷ []))
+    ∷ case (reported (bits32 0x03) (whole ++ (0x7E ∷ [])) (refusedBy 14 ∷ []))
+    -- 13: four octets and five are too few
+    ∷ case (reported (bits32 0x03) (0x05 ∷ (replicate 4 0x31 ++ (0x7E ∷ []))) (refusedBy 13 ∷ []))
+    ∷ case (reported (bits32 0x03) (0x06 ∷ (replicate 5 0x31 ++ (0x7E ∷ []))) (refusedBy 13 ∷ []))
+    ∷ case (reported (bits32 0x03) (0x07 ∷ (replicate 6 0x31 ++ (0x7E ∷ []))) (refusedBy 14 ∷ []))
+    -- 10: 2,053 octets, and one more
+    ∷ case (refusedTen (bits32 0x03) (replicate 136 0xDF ++ (0xDD ∷ [])) false)
+    ∷ case (refusedTen (bits32 0x03) (replicate 136 0xDF ++ (0xDE ∷ [])) true)
+    ∷ decodes (framed32 2052 1) 0x31 2053 0
+    ∷ decodes (framed32 2053 1) 0x31 2053 10
+    -- 2: areas that are long enough for 16 bits are not for 32
+    ∷ loads low (0x31 ∷ 0x32 ∷ []) (openedSender (bits32 0x03)) (area 2051) (refused 2)
+    ∷ loads low (0x31 ∷ 0x32 ∷ []) (openedSender (bits32 0x03)) (area 2052) done
+    ∷ hears (freshReceiver (bits32 0x03) (area 2053) (area 2052)) 0x7E (refused 2)
+    ∷ hears (freshReceiver (bits32 0x03) (area 2053) (area 2053)) 0x7E quiet
+    -- 3: the bounds
+    ∷ inBoundsS (laneOff32 low 5) false
+    ∷ inBoundsS (laneOff32 low 6) true
+    ∷ inBoundsS (laneOff32 high 2052) true
+    ∷ inBoundsS (laneOff32 high 2053) false
+    ∷ inBoundsR (framed32 2053 0) true
+    ∷ inBoundsR (framed32 2054 0) false
+    -- 3 of another width goes before all else
+    ∷ opens bits24 false
+    ∷ opens (record { octet = 0x03; width = 0 }) false
+    ∷ opens (bits16 0x03) true
+    ∷ opens (bits32 0x03) true
+    ∷ loads low (0x31 ∷ []) (openedSender bits24) [] (refused 3)
+    ∷ asks (record { state = openedSender bits24; low = []; high = [] }) (refused 3)
+    ∷ hears (freshReceiver bits24 [] []) 0x7E (refused 3)
     ∷ []
 
 abbrev pub examples : List Example
 examples =
     settingsExamples
-    ++ (codeExamples ++ (callExamples ++ (senderBounds ++ (receiverBounds ++ (emptyExamples ++ (frameExamples ++ heldExamples))))))
+    ++ (widthExamples ++ (codeExamples ++ (callExamples ++ (senderBounds ++ (receiverBounds ++ (emptyExamples ++ (frameExamples ++ heldExamples)))))))
 
 -- every example holds
 abbrev pub Examples : Type 0

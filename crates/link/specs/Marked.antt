@@ -6,28 +6,36 @@ use mathlib.Core.Option.{none, some}
 use Prim.Native.Nat.{ℕ, _+_}
 use lib.ListN.{length, replicate}
 use Rattle.cobs.specs.CodeBlocks.{flag, choice}
+use Rattle.link.specs.Agreed.{Settings, bits16, agreed, largestFrame, mostDecoded}
 use Rattle.link.specs.Answers.{Answer, octet, packet, held, refused}
 use Rattle.link.specs.Sender.{Lane, low, high, outAnswer, next}
-use Rattle.link.specs.Receiver.{Receive, receive}
+use Rattle.link.specs.Receiver.{ReceiverEnd, Receive, receive}
 use Rattle.link.specs.Runs.{SenderCall, loading, nextOctet, Station, freshStation, run, afterNext, Written, written, writtenOctets, atTrue, atFalse, receives, received, notQuiet, underWay, leftAside}
 use Rattle.link.specs.Demands.{freshReceiver, ReportAndPacket, reportAndPacket}
 
 -- sent: with these settings this packet is sent so, from either lane, and then the sender is idle
 -- reported: with these settings these octets are reported so, Quiet left out
--- refusedTen: with settings 03, whether the frame of these octets is refused 10
+-- refusedTen: with these settings, whether the frame of these octets is refused 10
 -- chosen: with ZXE, the code at this rest of D
 pub data Case : Type 0 where
-  sent : ℕ → List ℕ → List ℕ → Case
-  reported : ℕ → List ℕ → List ReportAndPacket → Case
-  refusedTen : List ℕ → Bool → Case
+  sent : Settings → List ℕ → List ℕ → Case
+  reported : Settings → List ℕ → List ReportAndPacket → Case
+  refusedTen : Settings → List ℕ → Bool → Case
   chosen : List ℕ → ℕ → Case
 
 -- areas of the smallest lengths: one for either lane of a sender, one for either area of a receiver
-abbrev pub senderArea : List ℕ
-senderArea = replicate 2050 0
+abbrev pub senderArea : Settings → List ℕ
+senderArea settings = replicate (largestFrame (agreed settings)) 0
 
-abbrev pub receiverArea : List ℕ
-receiverArea = replicate 2051 0
+abbrev pub receiverArea : Settings → List ℕ
+receiverArea settings = replicate (mostDecoded (agreed settings)) 0
+
+-- fresh ends with these areas
+abbrev pub freshSender : Settings → Station
+freshSender settings = freshStation settings (senderArea settings) (senderArea settings)
+
+abbrev pub freshEnd : Settings → ReceiverEnd
+freshEnd settings = freshReceiver settings (receiverArea settings) (receiverArea settings)
 
 -- a frame is refused 10, or is not
 abbrev pub IsRefusedTen : Bool → Answer → Type 0
@@ -37,9 +45,9 @@ IsRefusedTen false a = a ≡ refused 10 → ⊥
 -- what a case says
 abbrev pub Says : Case → Type 0
 Says (sent settings p line) =
-    (l : Lane) → writtenOctets (written (freshStation settings senderArea senderArea) (loading l p ∷ replicate (length line + 1) nextOctet)) ≡ line
-Says (reported settings line ts) = map reportAndPacket (notQuiet (receives (freshReceiver settings receiverArea receiverArea) line)) ≡ ts
-Says (refusedTen line ten) = IsRefusedTen ten (receive (received (freshReceiver 0x03 receiverArea receiverArea) line) flag .report)
+    (l : Lane) → writtenOctets (written (freshSender settings) (loading l p ∷ replicate (length line + 1) nextOctet)) ≡ line
+Says (reported settings line ts) = map reportAndPacket (notQuiet (receives (freshEnd settings) line)) ≡ ts
+Says (refusedTen settings line ten) = IsRefusedTen ten (receive (received (freshEnd settings) line) flag .report)
 Says (chosen rest code) = choice true rest .code ≡ code
 
 abbrev pub packetOf : Bool → List ℕ → ReportAndPacket
@@ -64,15 +72,15 @@ capture =
 -- the table, (a) to (i); the last two have two parts each
 abbrev pub cases : List Case
 cases =
-    sent 0x03 (0x00 ∷ 0x00 ∷ []) (0xE0 ∷ 0x03 ∷ 0x47 ∷ 0x0F ∷ 0x7E ∷ [])
-    ∷ sent 0x00 (0x00 ∷ 0x00 ∷ []) (0x01 ∷ 0x01 ∷ 0x03 ∷ 0x47 ∷ 0x0F ∷ 0x7E ∷ [])
-    ∷ sent 0x03 (0x7E ∷ 0x7E ∷ []) (0x05 ∷ 0x00 ∷ 0x00 ∷ 0x6A ∷ 0xFF ∷ 0x7E ∷ [])
-    ∷ sent 0x03 digits ((0x0C ∷ digits) ++ (0x6E ∷ 0x90 ∷ 0x7E ∷ []))
-    ∷ reported 0x03 capture (heldOf 3 false ∷ packetOf true digits ∷ packetOf false digits ∷ refusedBy 13 ∷ [])
-    ∷ reported 0x03 (0x7E ∷ 0x7E ∷ []) []
-    ∷ reported 0x03 (0x05 ∷ 0x31 ∷ 0x7E ∷ 0x05 ∷ 0x32 ∷ 0x7E ∷ []) (heldOf 1 false ∷ heldOf 1 true ∷ [])
-    ∷ refusedTen (replicate 136 0xDF ++ (0xDB ∷ [])) false
-    ∷ refusedTen (replicate 136 0xDF ++ (0xDC ∷ [])) true
+    sent (bits16 0x03) (0x00 ∷ 0x00 ∷ []) (0xE0 ∷ 0x03 ∷ 0x47 ∷ 0x0F ∷ 0x7E ∷ [])
+    ∷ sent (bits16 0x00) (0x00 ∷ 0x00 ∷ []) (0x01 ∷ 0x01 ∷ 0x03 ∷ 0x47 ∷ 0x0F ∷ 0x7E ∷ [])
+    ∷ sent (bits16 0x03) (0x7E ∷ 0x7E ∷ []) (0x05 ∷ 0x00 ∷ 0x00 ∷ 0x6A ∷ 0xFF ∷ 0x7E ∷ [])
+    ∷ sent (bits16 0x03) digits ((0x0C ∷ digits) ++ (0x6E ∷ 0x90 ∷ 0x7E ∷ []))
+    ∷ reported (bits16 0x03) capture (heldOf 3 false ∷ packetOf true digits ∷ packetOf false digits ∷ refusedBy 13 ∷ [])
+    ∷ reported (bits16 0x03) (0x7E ∷ 0x7E ∷ []) []
+    ∷ reported (bits16 0x03) (0x05 ∷ 0x31 ∷ 0x7E ∷ 0x05 ∷ 0x32 ∷ 0x7E ∷ []) (heldOf 1 false ∷ heldOf 1 true ∷ [])
+    ∷ refusedTen (bits16 0x03) (replicate 136 0xDF ++ (0xDB ∷ [])) false
+    ∷ refusedTen (bits16 0x03) (replicate 136 0xDF ++ (0xDC ∷ [])) true
     ∷ chosen (replicate 206 0x31 ++ (0x00 ∷ [])) 0xCF
     ∷ chosen (replicate 207 0x31 ++ (0x00 ∷ [])) 0xD0
     ∷ []
@@ -103,13 +111,13 @@ after =
 
 -- the sender at the flag; what is written after it; and the receiver's calls for that
 abbrev atFlag : Station
-atFlag = run (freshStation 0x03 senderArea senderArea) before
+atFlag = run (freshSender (bits16 0x03)) before
 
 abbrev afterFlag : List Written
 afterFlag = written (afterNext atFlag) after
 
 abbrev callsAfterFlag : List Receive
-callsAfterFlag = receives (receive (received (freshReceiver 0x03 receiverArea receiverArea) noise) flag .after) (writtenOctets afterFlag)
+callsAfterFlag = receives (receive (received (freshEnd (bits16 0x03)) noise) flag .after) (writtenOctets afterFlag)
 
 --   premise: the chosen octet is a flag
 --   underWay: at it the low packet is under way
@@ -118,7 +126,7 @@ callsAfterFlag = receives (receive (received (freshReceiver 0x03 receiverArea re
 --   aside: what is reported at the closing flag of 31 32 33, whose rest is joined to that fragment
 pub record AtWork : Type 0 where
   pub premise : outAnswer (next (atFlag .end) .out) ≡ octet flag
-  pub underWay : underWay low false (written (freshStation 0x03 senderArea senderArea) (before ++ (nextOctet ∷ []))) ≡ true
+  pub underWay : underWay low false (written (freshSender (bits16 0x03)) (before ++ (nextOctet ∷ []))) ≡ true
   pub line : writtenOctets afterFlag
       ≡ (0x05 ∷ 0x41 ∷ 0x42 ∷ 0xEF ∷ 0x31 ∷ 0x7E ∷ [])
       ++ (0xD1 ∷ 0x05 ∷ 0x32 ∷ 0x33 ∷ 0xB4 ∷ 0x9C ∷ 0x7E ∷ [])

@@ -9,7 +9,7 @@ use lib.Dec.{ltb, eqb}
 use lib.ListN.{length, take, drop, replicate}
 use Rattle.fcs.specs.Notation.{if_then_else_}
 use Rattle.cobs.specs.CodeBlocks.{frame, toLine, lineOctets, blocks, uninterrupted}
-use Rattle.link.specs.Agreed.{agreed, leastPacket, largestFrame}
+use Rattle.link.specs.Agreed.{Settings, agreed, leastPacket, largestFrame, valid}
 use Rattle.link.specs.Answers.{done, idle}
 use Rattle.link.specs.Sender.{Lane, low, high, noLane, sending, Sender, SenderEnd, Out, closes, breaksOff, sends, sendsNothing, refuses, outAnswer, laneState, laneArea, laneD, loaded, load, next}
 use Rattle.link.specs.SenderParts.{SenderReady}
@@ -77,7 +77,7 @@ RestUninterrupted =
 -- So a packet, loaded into either lane of a fresh sender, with nothing loaded after it.
 abbrev pub PacketUninterrupted : Type 0
 PacketUninterrupted =
-    (settings : ℕ) (lowArea highArea : List ℕ) → (let g = agreed settings in
+    (settings : Settings) → valid (agreed settings) ≡ true → (lowArea highArea : List ℕ) → (let g = agreed settings in
     largestFrame g ≤ length lowArea → largestFrame g ≤ length highArea → (l : Lane) (p : List ℕ) → leastPacket ≤ length p → length p ≤ g .limit → (n : ℕ)
     → (let octets = uninterrupted (g .zxe) (frame (g .check) p) in
     SendsOf l octets n (written (freshStation settings lowArea highArea) (loading l p ∷ replicate n nextOctet))))
@@ -128,7 +128,7 @@ pub record UrgentFirst : Type 0 where
   pub soon : (w : Station) → SenderReady (w .end) → agreed (w .end .state .settings) .pre ≡ true → (p : List ℕ)
       → load high p (w .end .state) (w .end .high) .answer ≡ done
       → List·Memᴰ true (sentBy high (written (afterLoad high p w) (replicate 3 nextOctet)))
-  pub whole : (settings : ℕ) (lowArea highArea : List ℕ) (calls : List SenderCall) → agreed settings .pre ≡ false → (e : Written)
+  pub whole : (settings : Settings) (lowArea highArea : List ℕ) (calls : List SenderCall) → agreed settings .pre ≡ false → (e : Written)
       → List·Memᴰ e (written (freshStation settings lowArea highArea) calls) → e .out ≡ breaksOff → ⊥
-  pub until : (settings : ℕ) (lowArea highArea : List ℕ) (calls : List SenderCall)
+  pub until : (settings : Settings) (lowArea highArea : List ℕ) (calls : List SenderCall)
       → OnlyHighUntilD1 false (written (freshStation settings lowArea highArea) calls)

@@ -9,13 +9,15 @@ use Rattle.fcs.specs.CheckSequence.{good}
 use Rattle.cobs.specs.CodeBlocks.{flag, fromLine, meaning}
 use Rattle.cobs.specs.declared.Meaning.{Meaning}
 use Rattle.cobs.specs.declared.Meaning.the-variants.{InTable, NotAgreed, NoCode}
-use Rattle.link.specs.Agreed.{Agreed, agreed, leastFrame, mostDecoded}
+use Rattle.link.specs.Agreed.{Settings, Agreed, agreed, valid, leastFrame, mostDecoded}
 use Rattle.link.specs.Answers.{Answer, quiet, packet, held, refused}
 pub use Rattle.link.specs.declared.receiver.Fragment.{Fragment}
 pub use Rattle.link.specs.declared.receiver.Fragment.the-variants.{NothingHeld as nothingHeld, Holds as holds}
 pub use Rattle.link.specs.declared.receiver.LastBlock.{LastBlock}
 pub use Rattle.link.specs.declared.receiver.LastBlock.the-variants.{NoBlock as noBlock, BlockD0 as blockD0, OtherBlock as otherBlock}
 pub use Rattle.link.specs.declared.receiver.Receiver.{Receiver}
+pub use Rattle.link.specs.declared.receiver.Opening.{Opening}
+pub use Rattle.link.specs.declared.receiver.Opening.the-variants.{Opened as opened, Refused as refusedOpening}
 
 -- ---- the state
 
@@ -29,10 +31,10 @@ pub use Rattle.link.specs.declared.receiver.Receiver.{Receiver}
 --   mark *in a frame*                                       framed
 --   mark *resumed*                                          resumed
 --   remembered refusal                                      refusal: its number, 0 for none
---   settings octet ("Code blocks")                          settings
+--   settings octet ("Code blocks"), width (slip 1)          settings: octet, width
 
 -- Out of a frame all is as fresh but the settings, the turn of the areas and what is held.
-abbrev pub outOfFrame : ℕ → Bool → Fragment → Receiver
+abbrev pub outOfFrame : Settings → Bool → Fragment → Receiver
 outOfFrame settings turn fragment =
     record {
       turn = turn;
@@ -48,8 +50,12 @@ outOfFrame settings turn fragment =
     }
 
 -- An end is opened fresh: the first area is the work area, and nothing is held.
-abbrev pub openedReceiver : ℕ → Receiver
+abbrev pub openedReceiver : Settings → Receiver
 openedReceiver settings = outOfFrame settings false nothingHeld
+
+-- Its opening is refused 3 of any width but 16 or 32.
+abbrev pub openReceiver : Settings → Opening
+openReceiver settings = if valid (agreed settings) then opened (openedReceiver settings) else refusedOpening 3
 
 -- The state with some items changed. But for these four and `outOfFrame` no definition and no proof writes a whole state out.
 
@@ -143,7 +149,7 @@ lastBlockOk noBlock r = r .resumed
 lastBlockOk blockD0 r = true
 lastBlockOk otherBlock r = ltb 0 (r .left) || ltb 0 (r .decoded)
 
--- all of it, with 207 data octets and 2 zeros at the most, no count above 2,051 (in the base), and only a refusal from 5 to 10 remembered
+-- all of it, with 207 data octets and 2 zeros at the most, no count above 2,051 (with 16 bits), and only a refusal from 5 to 10 remembered
 unfoldable pub inBounds : Agreed → Receiver → Bool
 inBounds g r =
     leb (r .decoded) (mostDecoded g)
@@ -179,7 +185,7 @@ write area n xs = take n area ++ xs ++ drop (n + length xs) area
 abbrev pub step3Write : List ℕ → Working → Working
 step3Write xs w = record { state = withDecoded (w .state .decoded + length xs) (w .state); area = write (w .area) (w .state .decoded) xs }
 
--- Step 3: octets are decoded, or, where they would be too many (above 2,051 in the base), refused 10 and not written.
+-- Step 3: octets are decoded, or, where they would be too many (above 2,051 with 16 bits), refused 10 and not written.
 unfoldable pub step3Decode : Agreed → List ℕ → Working → Working
 step3Decode g xs w = if ltb (mostDecoded g) (w .state .decoded + length xs) then step4Refuse 10 w else step3Write xs w
 
@@ -263,7 +269,7 @@ step5Hold r =
 abbrev pub step5InBlock : Agreed → Receiver → Ended
 step5InBlock g r = if g .pre then step5Hold r else step5End (refused 11) r
 
--- Without the phantom n octets are left. Too few for a frame (under 4 in the base) are refused 13, and those with a register that is not good
+-- Without the phantom n octets are left. Too few for a frame (under 4 with 16 bits) are refused 13, and those with a register that is not good
 -- 14; else they are a packet and its FCS.
 unfoldable pub step5WithoutPhantom : Agreed → Receiver → List ℕ → ℕ → Ended
 step5WithoutPhantom g r area n =
@@ -318,11 +324,12 @@ pub record Receive : Type 0 where
 abbrev pub flagged : ReceiverEnd → Ended → Receive
 flagged e t = record { report = t .report; after = record { state = t .state; first = e .first; second = e .second } }
 
--- The receiver's call: refusals 2 and 3, in this order, or a flag, or an octet of a frame, where 00 is turned into 7E first.
+-- The receiver's call: refusals 3 (of the width), 2 and 3, in this order, or a flag, or an octet of a frame, where 00 is turned into 7E first.
 unfoldable pub receive : ReceiverEnd → ℕ → Receive
 receive e x =
     let g = agreed (e .state .settings) in
-    if ltb (length (e .first)) (mostDecoded g) || ltb (length (e .second)) (mostDecoded g) then record { report = refused 2; after = e }
+    if not (valid g) then record { report = refused 3; after = e }
+    else if ltb (length (e .first)) (mostDecoded g) || ltb (length (e .second)) (mostDecoded g) then record { report = refused 2; after = e }
     else if not (inBounds g (e .state)) then record { report = refused 3; after = e }
     else if eqb x flag then flagged e (atFlag g (e .state) (work e .area))
     else record { report = quiet; after = putBack e (steps1To4 g (work e) (fromLine x)) }

@@ -7,6 +7,7 @@ use Prim.Native.Nat.{ℕ}
 use lib.ListN.{take}
 use Rattle.fcs.specs.Notation.{if_then_else_}
 use Rattle.cobs.specs.CodeBlocks.{flag}
+use Rattle.link.specs.Agreed.{Settings}
 use Rattle.link.specs.Answers.{Answer, done, octet, idle, quiet, packet, held, refused, isQuiet}
 use Rattle.link.specs.Sender.{Lane, low, high, SenderEnd, Load, Out, closes, breaksOff, sends, sendsNothing, refuses, Step, isLow, outAnswer, laneArea, load, next}
 use Rattle.link.specs.Sender as sender
@@ -30,7 +31,7 @@ pub record Station : Type 0 where
   pub lanes : Lanes
 
 -- a fresh sender, with any areas
-abbrev pub freshStation : ℕ → List ℕ → List ℕ → Station
+abbrev pub freshStation : Settings → List ℕ → List ℕ → Station
 freshStation settings lowArea highArea =
     record {
       end = record { state = sender.openedSender settings; low = lowArea; high = highArea };

@@ -7,7 +7,7 @@ use lib.ListN.{length, take, drop, getD}
 use Rattle.fcs.specs.Notation.{if_then_else_}
 use Rattle.cobs.specs.CodeBlocks.{frame, withPhantom, flag, toLine, choice}
 use Rattle.cobs.specs.declared.Choice.{Choice}
-use Rattle.link.specs.Agreed.{Agreed, agreed, leastPacket, leastFrame, largestFrame}
+use Rattle.link.specs.Agreed.{Settings, Agreed, agreed, valid, leastPacket, leastFrame, largestFrame}
 use Rattle.link.specs.Answers.{Answer, done, octet, idle, refused}
 pub use Rattle.link.specs.declared.sender.Lane.{Lane}
 pub use Rattle.link.specs.declared.sender.Lane.the-variants.{Low as low, High as high}
@@ -15,6 +15,8 @@ pub use Rattle.link.specs.declared.sender.OnLine.{OnLine}
 pub use Rattle.link.specs.declared.sender.OnLine.the-variants.{NoLane as noLane, Sending as sending}
 pub use Rattle.link.specs.declared.sender.LaneState.{LaneState}
 pub use Rattle.link.specs.declared.sender.Sender.{Sender}
+pub use Rattle.link.specs.declared.sender.Opening.{Opening}
+pub use Rattle.link.specs.declared.sender.Opening.the-variants.{Opened as opened, Refused as refusedOpening}
 
 -- ---- the state
 
@@ -25,15 +27,19 @@ pub use Rattle.link.specs.declared.sender.Sender.{Sender}
 --   lane on the line                                        on: `sending l`, or `noLane`
 --   mark *suspended*                                        suspended
 --   mark *cut due*                                          cut
---   settings octet ("Code blocks")                          settings
+--   settings octet ("Code blocks"), width (slip 1)          settings: octet, width
 
 abbrev pub emptyLane : LaneState
 emptyLane = record { length = 0; position = 0 }
 
--- a sender as it is opened
-abbrev pub openedSender : ℕ → Sender
+-- a sender as it is opened,
+abbrev pub openedSender : Settings → Sender
 openedSender settings =
     record { low = emptyLane; high = emptyLane; left = 0; zeros = 0; on = noLane; suspended = false; cut = false; settings = settings }
+
+-- where the opening is not refused: refusal 3 of any width but 16 or 32
+abbrev pub openSender : Settings → Opening
+openSender settings = if valid (agreed settings) then opened (openedSender settings) else refusedOpening 3
 
 abbrev pub laneState : Lane → Sender → LaneState
 laneState low s = s .low
@@ -112,11 +118,12 @@ putFrame g l packet s area =
       area = f ++ drop (length f) area;
     }
 
--- Load: refusals 2, 3, 4 and 1, in this order, or Done.
+-- Load: refusals 3 (of the width), 2, 3, 4 and 1, in this order, or Done.
 unfoldable pub load : Lane → List ℕ → Sender → List ℕ → Load
 load l packet s area =
     let g = agreed (s .settings) in
-    if ltb (length area) (largestFrame g) then record { answer = refused 2; state = s; area = area }
+    if not (valid g) then record { answer = refused 3; state = s; area = area }
+    else if ltb (length area) (largestFrame g) then record { answer = refused 2; state = s; area = area }
     else if not (inBounds g s) then record { answer = refused 3; state = s; area = area }
     else if loaded (laneState l s) then record { answer = refused 4; state = s; area = area }
     else if ltb (length packet) leastPacket || ltb (g .limit) (length packet) then record { answer = refused 1; state = s; area = area }
@@ -214,12 +221,13 @@ steps1To6 g e true o = step1CutDue (e .state)
 steps1To6 g e false noLane = step2NoLane g e
 steps1To6 g e false (sending l) = steps3To6 g l (e .state) (laneD (laneState l (e .state)) (laneArea l e))
 
--- Next octet: refusals 2 and 3, in this order, or the steps.
+-- Next octet: refusals 3 (of the width), 2 and 3, in this order, or the steps.
 unfoldable pub next : SenderEnd → Step
 next e =
     let s = e .state in
     let g = agreed (s .settings) in
-    if ltb (length (e .low)) (largestFrame g) || ltb (length (e .high)) (largestFrame g) then record { out = refuses 2; state = s }
+    if not (valid g) then record { out = refuses 3; state = s }
+    else if ltb (length (e .low)) (largestFrame g) || ltb (length (e .high)) (largestFrame g) then record { out = refuses 2; state = s }
     else if not (inBounds g s) then record { out = refuses 3; state = s }
     else steps1To6 g e (s .cut) (s .on)
 

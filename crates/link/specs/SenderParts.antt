@@ -4,7 +4,7 @@ use mathlib.Core.Bool.{true}
 use mathlib.Core.List.{List}
 use Prim.Native.Nat.{ℕ, _+_, _≤_, _<_}
 use lib.ListN.{length}
-use Rattle.link.specs.Agreed.{Agreed, agreed, leastFrame, largestFrame}
+use Rattle.link.specs.Agreed.{Agreed, agreed, valid, leastFrame, largestFrame}
 use Rattle.link.specs.Sender.{Lane, LaneState, Sender, SenderEnd, sending, inBounds}
 
 -- A lane that may be on the line: its area is long enough for a frame, and its block, with so much data left and zeros due, is inside D.
@@ -28,8 +28,9 @@ pub record SendsOn (l : Lane) (s : Sender) : Type 0 where
   pub dataLeft : 0 < s .left
   pub bounds : s .on ≡ sending l → inBounds (agreed (s .settings)) s ≡ true
 
--- no call of next octet is refused: the areas are long enough, and the state is in bounds
+-- no call of next octet is refused: the settings are valid, the areas are long enough, and the state is in bounds
 pub record SenderReady (e : SenderEnd) : Type 0 where
+  pub valid : valid (agreed (e .state .settings)) ≡ true
   pub low : largestFrame (agreed (e .state .settings)) ≤ length (e .low)
   pub high : largestFrame (agreed (e .state .settings)) ≤ length (e .high)
   pub bounds : inBounds (agreed (e .state .settings)) (e .state) ≡ true

@@ -1,14 +1,14 @@
 // The sender (document 01, "Sender").
 ghost use mathlib.Core.Path.{_≡_};
 ghost use mathlib.Core.Bool.{true};
-ghost use mathlib.Core.List.{_++_};
 ghost use Prim.Native.Nat.{ℕ, _+_, _<_, _≤_};
 ghost use lib.ListN.{length, drop, getD};
 ghost use Rattle.cobs.specs.CodeBlocks.{choice};
-ghost use Rattle.link.specs.Agreed.{agreed, largestFrame};
+ghost use Rattle.link.specs.Agreed.{agreed, valid, largestFrame};
 ghost use Rattle.link.specs.Answers.{loadAnswer, nextAnswer};
-ghost use Rattle.link.specs.Sender.{openedSender, laneState, laneD, withLane, positionUp, withBlock, withLine, laneOk, laneOnLineOk, lineOk, inBounds, putFrame, load, step1CutDue, step3Covered, step4BreakOff, step5Data, step6Code, isLow, steps3To6, step2NoLane, steps1To6, next, seen};
+ghost use Rattle.link.specs.Sender.{openedSender, openSender, laneState, laneD, withLane, positionUp, withBlock, withLine, laneOk, laneOnLineOk, lineOk, inBounds, putFrame, load, step1CutDue, step3Covered, step4BreakOff, step5Data, step6Code, isLow, steps3To6, step2NoLane, steps1To6, next, seen};
 ghost use Rattle.link.specs.SenderParts.{LaneReady, DataDue, SendsOn};
+use crate::Settings;
 
 // A lane is document 01's word for one of the sender's two places for a packet.
 pub enum Lane {
@@ -44,8 +44,14 @@ pub struct Sender {
     pub suspended: bool,
     // mark *cut due*: the flag that breaks it off comes next
     pub cut: bool,
-    // the settings octet
-    pub settings: u8,
+    // the settings octet and the width of the check
+    pub settings: Settings,
+}
+
+pub enum Opening {
+    Opened(Sender),
+    // 3
+    Refused(u8),
 }
 
 pub enum LoadAnswer {
@@ -71,8 +77,17 @@ pub struct Sent {
     pub answer: NextAnswer,
 }
 
-// A sender is opened empty.
-pub fn open(settings: u8) -> Sender
+// A sender is opened empty. Refusal 3 of any width but 16 or 32.
+pub fn open(settings: Settings) -> Opening
+    ensures { λ r. ⌜ r ≡ openSender settings ⌝ }
+{
+    if !settings.valid() {
+        return Opening::Refused(3);
+    }
+    Opening::Opened(opened(settings))
+}
+
+fn opened(settings: Settings) -> Sender
     ensures { λ r. ⌜ r ≡ openedSender settings ⌝ }
 {
     let empty = LaneState {
@@ -91,24 +106,12 @@ pub fn open(settings: u8) -> Sender
     }
 }
 
-// The packet's octets at the area's start.
-fn copy(packet: &[u8], area: &mut [u8])
-    requires { ⌜ length (now packet) ≤ length (now area) ⌝ }
-    ensures { λ r. ⌜ now (area .exit) ≡ now (packet .entry) ++ drop (length (now (packet .entry))) (now (area .entry)) ⌝ }
-{
-    let mut i = 0;
-    while i < packet.len() {
-        area[i] = packet[i];
-        i += 1;
-    }
-}
-
-// An empty lane or a frame of an allowed length, and a position no further than behind D. The limits are the same for all settings.
-fn lane_in_bounds(frame: u16, position: u16) -> bool
-    ensures { λ r. ⌜ ((settings : ℕ) → r ≡ laneOk (agreed settings) (record { length = frame; position = position })) ⌝ }
+// An empty lane or a frame of an allowed length, and a position no further than behind D.
+fn lane_in_bounds(settings: Settings, frame: u16, position: u16) -> bool
+    ensures { λ r. ⌜ r ≡ laneOk (agreed settings) (record { length = frame; position = position }) ⌝ }
 {
     let n = frame as usize;
-    ((n == 0) | (crate::LEAST_FRAME <= n) & (n <= crate::LARGEST_FRAME))
+    ((n == 0) | (settings.least_frame() <= n) & (n <= settings.largest_frame()))
         & (position as usize <= n + 1)
 }
 
@@ -219,6 +222,7 @@ impl Sender {
     {
         let low = self.low;
         let high = self.high;
+        let settings = self.settings;
         Sender {
             low,
             high,
@@ -227,7 +231,7 @@ impl Sender {
             on,
             suspended: self.suspended,
             cut: self.cut,
-            settings: self.settings,
+            settings,
         }
     }
 
@@ -265,8 +269,8 @@ impl Sender {
     fn in_bounds(self) -> bool
         ensures { λ r. ⌜ r ≡ inBounds (agreed (self .settings)) self ⌝ }
     {
-        lane_in_bounds(self.low.length, self.low.position)
-            & lane_in_bounds(self.high.length, self.high.position)
+        lane_in_bounds(self.settings, self.low.length, self.low.position)
+            & lane_in_bounds(self.settings, self.high.length, self.high.position)
             & (self.left <= 207)
             & (self.zeros <= 2)
             & ((0 < self.left) | (self.zeros == 0))
@@ -290,12 +294,10 @@ impl Sender {
             ≡ putFrame (agreed (self .settings)) lane (now (packet .entry)) self (now (area .entry)) ⌝ }
     {
         let n = packet.len();
-        copy(packet, area);
-        let fcs = fcs::fcs16(packet);
-        area[n] = fcs[0];
-        area[n + 1] = fcs[1];
+        crate::copy(packet, area, 0);
+        self.settings.put_fcs(packet, area);
         let q = LaneState {
-            length: (n + crate::FCS_LENGTH) as u16,
+            length: (n + self.settings.fcs_length()) as u16,
             position: 0,
         };
         Loaded {
@@ -304,12 +306,15 @@ impl Sender {
         }
     }
 
-    // Load: refusals 2, 3, 4 and 1, in this order.
+    // Load: refusals 3 (of the width), 2, 3, 4 and 1, in this order.
     pub fn load(self, lane: Lane, packet: &[u8], area: &mut [u8]) -> Loaded
         ensures { λ r. ⌜ record { answer = loadAnswer (r .answer); state = r .state; area = now (area .exit) }
             ≡ load lane (now (packet .entry)) self (now (area .entry)) ⌝ }
     {
-        if area.len() < crate::LARGEST_FRAME {
+        if !self.settings.valid() {
+            return self.load_refused(3);
+        }
+        if area.len() < self.settings.largest_frame() {
             return self.load_refused(2);
         }
         if !self.in_bounds() {
@@ -416,13 +421,13 @@ impl Sender {
         if q.length < q.position {
             return self.step3_covered(lane);
         }
-        if lane.is_low() & crate::pre(self.settings) & (0 < high.length) {
+        if lane.is_low() & self.settings.pre() & (0 < high.length) {
             return self.step4_break_off();
         }
         if 0 < self.left {
             return self.step5_data(lane, area);
         }
-        self.step6_code(lane, q.choose(area, crate::zxe(self.settings)))
+        self.step6_code(lane, q.choose(area, self.settings.zxe()))
     }
 
     // Step 2, no lane on the line: high goes before low. Low, where it was suspended, sends D1 alone and is so no longer.
@@ -477,7 +482,9 @@ impl Sender {
 
     // Refusal 3, then the steps.
     fn checked(self, low: &[u8], high: &[u8]) -> Sent
-        requires { ⌜ (largestFrame (agreed (self .settings)) ≤ length (now low)) × (largestFrame (agreed (self .settings)) ≤ length (now high)) ⌝ }
+        requires { ⌜ (valid (agreed (self .settings)) ≡ true)
+            × (largestFrame (agreed (self .settings)) ≤ length (now low))
+            × (largestFrame (agreed (self .settings)) ≤ length (now high)) ⌝ }
         ensures { λ r. ⌜ record { answer = nextAnswer (r .answer); state = r .state }
             ≡ seen (next (record { state = self; low = now (low .entry); high = now (high .entry) })) ⌝ }
     {
@@ -493,12 +500,6 @@ impl Sender {
     fn data_due(self, frame: u16, position: u16) -> bool
         ensures { λ r. ⌜ (r ≡ true → DataDue (agreed (self .settings)) frame position self) ⌝ }
     {
-        if (frame as usize) < crate::LEAST_FRAME {
-            return false;
-        }
-        if crate::LARGEST_FRAME < frame as usize {
-            return false;
-        }
         if self.left == 0 {
             return false;
         }
@@ -506,6 +507,12 @@ impl Sender {
             return false;
         }
         if 2 < self.zeros {
+            return false;
+        }
+        if (frame as usize) < self.settings.least_frame() {
+            return false;
+        }
+        if self.settings.largest_frame() < frame as usize {
             return false;
         }
         if frame as usize + 1 < position as usize + self.left as usize + self.zeros as usize {
@@ -540,18 +547,22 @@ impl Sender {
         if self.suspended & (self.low.length == 0) {
             return false;
         }
-        if !lane_in_bounds(self.low.length, self.low.position) {
+        if !lane_in_bounds(self.settings, self.low.length, self.low.position) {
             return false;
         }
         self.data_due(self.high.length, self.high.position)
     }
 
-    // Next octet: refusals 2 and 3, in this order.
+    // Next octet: refusals 3 (of the width), 2 and 3, in this order.
     pub fn next_octet(self, low: &[u8], high: &[u8]) -> Sent
         ensures { λ r. ⌜ record { answer = nextAnswer (r .answer); state = r .state }
             ≡ seen (next (record { state = self; low = now (low .entry); high = now (high .entry) })) ⌝ }
     {
-        if (low.len() < crate::LARGEST_FRAME) | (high.len() < crate::LARGEST_FRAME) {
+        if !self.settings.valid() {
+            return self.next_refused(3);
+        }
+        let most = self.settings.largest_frame();
+        if (low.len() < most) | (high.len() < most) {
             return self.next_refused(2);
         }
         let on = self.on;

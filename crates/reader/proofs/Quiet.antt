@@ -121,7 +121,7 @@ module _ (e : ReceiverEnd) (l : List ℕ) (n used : ℕ) (area : List ℕ) (a : 
   reads-on w =
       let m = e .state .decoded in
       let room = mostDecoded (agreed (e .state .settings)) in
-      let long : room ≤ length (work e .area) = branch (λ (b : List ℕ). room ≤ length b) (e .state .turn) (λ _. a .2) (λ _. a .1) in
+      let long : room ≤ length (work e .area) = branch (λ (b : List ℕ). room ≤ length b) (e .state .turn) (λ _. a .second) (λ _. a .first) in
       let fits : m + length (take used l) ≤ length (work e .area) =
       omega (arith, long, k, within (take n l), length-take n l, length-take used l) in
       let p : readOn e l ≡ usedBefore used (readOn (stored used l e) (drop used l)) = rw k (stores-on n l e a c h d) in

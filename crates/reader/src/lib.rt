@@ -93,7 +93,7 @@ fn stretch(state: Receiver, octets: &[u8], first: &mut [u8], second: &mut [u8]) 
     }
     let at = state.decoded as usize;
     let most = cobs::lesser(
-        cobs::lesser(ahead - 1, link::MOST_DECODED - at),
+        cobs::lesser(ahead - 1, state.settings.most_decoded() - at),
         octets.len(),
     );
     let used = before_flag(&octets[0..most]);

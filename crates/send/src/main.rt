@@ -4,8 +4,10 @@ ghost use Prim.Native.Nat.{_≤_, _<_};
 ghost use lib.ListN.{length};
 use libc::STDERR_FILENO;
 use libc::STDOUT_FILENO;
+use link::Settings;
 use link::sender::Lane;
 use link::sender::LoadAnswer;
+use link::sender::Opening;
 use link::sender::Sender;
 
 // Octets of a record before its packet: the lane, and two numbers of two octets.
@@ -64,6 +66,19 @@ struct Rest {
     over: bool,
 }
 
+// One octet of a file, and what the read answered.
+struct OneOctet {
+    got: isize,
+    octet: u8,
+}
+
+// Where in a file the records begin, how many octets of them were read (0 or 1), and which.
+struct Start {
+    place: u64,
+    kept: usize,
+    first: u8,
+}
+
 // A line at its end, and where in the file that is: behind so many records and so many octets. written: all that was sent is.
 struct Outcome {
     fault: Fault,
@@ -92,30 +107,106 @@ fn file(number: usize) -> bool {
         return false;
     }
     let n = file.named;
-    let mut settings = [0u8; 1];
-    let got = libc::read(fd, &mut settings);
-    if got <= 0 {
-        return no_settings(got, &name[0..n]);
-    }
-    let outcome = all(fd, settings[0]);
+    let whole = head(fd, &name[0..n]);
     files::close(file);
-    told(outcome, &name[0..n])
+    whole
+}
+
+// What a file has before its records: the settings octet, and the width behind a W where there is one. The answer says whether all of the
+// file was sent.
+fn head(fd: i32, name: &[u8]) -> bool {
+    let settings = octet(fd);
+    if settings.got <= 0 {
+        return no_settings(settings.got, name);
+    }
+    let next = octet(fd);
+    if (0 < next.got) & (next.octet == b'W') {
+        let width = octet(fd);
+        if width.got <= 0 {
+            return no_width(width.got, name);
+        }
+        return open(
+            fd,
+            settings.octet,
+            width.octet,
+            Start {
+                place: 3,
+                kept: 0,
+                first: 0,
+            },
+            name,
+        );
+    }
+    open(
+        fd,
+        settings.octet,
+        16,
+        Start {
+            place: 1,
+            kept: read_one(next.got),
+            first: next.octet,
+        },
+        name,
+    )
+}
+
+// How many octets a read of one has read, 0 or 1.
+fn read_one(got: isize) -> usize
+    ensures { λ r. ⌜ r ≤ 1 ⌝ }
+{
+    if got <= 0 {
+        return 0;
+    }
+    1
+}
+
+// The sender is opened, and the records are sent.
+fn open(fd: i32, octet: u8, width: u8, records: Start, name: &[u8]) -> bool
+    requires { ⌜ records .kept ≤ 1 ⌝ }
+{
+    let opening = link::sender::open(Settings { octet, width });
+    match opening {
+        Opening::Opened(sender) => {
+            let outcome = all(fd, sender, records);
+            told(outcome, name)
+        }
+        Opening::Refused(_) => {
+            files::complain(b"send", name);
+            say(b"its width is ");
+            io::print_decimal(STDERR_FILENO, width as u64);
+            say(b", neither 16 nor 32\n");
+            false
+        }
+    }
+}
+
+// One octet, and what the read answered.
+fn octet(fd: i32) -> OneOctet {
+    let mut octets = [0u8; 1];
+    let got = libc::read(fd, &mut octets);
+    OneOctet {
+        got,
+        octet: octets[0],
+    }
 }
 
 // The line of a file's records.
-fn all(fd: i32, settings: u8) -> Outcome {
+fn all(fd: i32, sender: Sender, from: Start) -> Outcome
+    requires { ⌜ from .kept ≤ 1 ⌝ }
+{
     let mut input = input_buffer();
     let mut page = io::large_buffer();
-    let mut low = [0u8; 2050];
-    let mut high = [0u8; 2050];
+    let mut low = [0u8; 2052];
+    let mut high = [0u8; 2052];
     let mut line = Line {
-        state: link::sender::open(settings),
+        state: sender,
         filled: 0,
         on: true,
     };
-    let mut kept = 0usize;
+    input[0] = from.first;
+    let mut kept = from.kept;
     let mut records = 0u64;
-    let mut octets = 1u64;
+    let mut octets = from.place;
     let mut fault = Fault::Nothing;
     let mut reads = u64::MAX;
     while reads > 0 {
@@ -532,5 +623,16 @@ fn no_settings(got: isize, name: &[u8]) -> bool {
     }
     files::complain(b"send", name);
     say(b"it is empty, there is no settings octet\n");
+    false
+}
+
+// A file that ends behind W.
+fn no_width(got: isize, name: &[u8]) -> bool {
+    if got < 0 {
+        files::fail(b"send", name, b"cannot be read");
+        return false;
+    }
+    files::complain(b"send", name);
+    say(b"it is cut short, there is no width behind its W\n");
     false
 }

@@ -12,11 +12,13 @@ use lib.ListN.{length, take, drop, length-append, length-drop, take-append-drop}
 use lib.Seq.{take-append-seam, drop-append-seam}
 use Rattle.cobs.proofs.Tests.{branch}
 use Rattle.link.specs.Agreed.{agreed}
+use Rattle.link.specs.declared.Settings.{Settings}
 use Rattle.link.specs.Answers.{Answer, done, octet, idle, quiet, packet, held, refused, isQuiet}
 use Rattle.link.specs.Receiver.{ReceiverEnd, Receive, areaOf, receive}
 use Rattle.link.specs.Runs.{receives, received, notQuiet}
 use Rattle.link.specs.EachCall.{Within}
-use Rattle.link.proofs.Within.{within, limit-is, most-is}
+use Rattle.link.proofs.Agreed.{limit-is, decoded-at-most}
+use Rattle.link.proofs.Within.{within}
 use Rattle.reader.specs.NothingLost.{notQuietCalls, reports}
 use Rattle.reader.proofs.NothingLost.{received-append, cuts}
 use Rattle.tally.specs.Counts.{note}
@@ -31,12 +33,12 @@ use Rattle.transcript.proofs.Printing.{quiet-line}
 
 -- ---- no line is longer than the longest
 
-fits : (settings : ℕ) (a : Answer) (e : ReceiverEnd) → Within (agreed settings) a e
+fits : (settings : Settings) (a : Answer) (e : ReceiverEnd) → Within (agreed settings) a e
     → length (reportLine a (shownOf a (e .first) (e .second))) ≤ longestLine
 fits s (packet second n) e w =
     let l : n ≤ 2048 = omega (arith, w .1, limit-is s) in
     omega (arith, report-most (packet second n) (shownOf (packet second n) (e .first) (e .second)) (omega arith), front-most n (areaOf second e))
-fits s (held n replaced) e w = omega (arith, report-most (held n replaced) [] (omega (arith, w, most-is s)))
+fits s (held n replaced) e w = omega (arith, report-most (held n replaced) [] (omega (arith, w, decoded-at-most s)))
 fits s (refused n) e w = omega (arith, report-most (refused n) [] (omega arith))
 fits s quiet e w = omega (arith, report-most quiet [] (omega arith))
 fits s done e w = omega (arith, report-most done [] (omega arith))

@@ -4,6 +4,7 @@ ghost use mathlib.Core.Path.{_≡_};
 ghost use Prim.Native.Nat.{min, _/_, _≤_};
 ghost use lib.ListN.{length};
 ghost use Rattle.link.specs.Answers.{reportAnswer};
+ghost use Rattle.link.specs.Agreed.{bits16};
 ghost use Rattle.link.specs.Receiver.{openedReceiver};
 ghost use Rattle.link.specs.Runs.{received};
 ghost use Rattle.reader.specs.NothingLost.{reports};
@@ -16,14 +17,14 @@ use link::receiver::Receiver;
 use link::receiver::Report;
 use tally::Tally;
 
-// The settings that a capture is read with: ZXE and PRE are both on.
+// The settings octet that a capture is read with: ZXE and PRE are both on. The check has 16 bits.
 const SETTINGS: u8 = 0x03;
 
 // The receiver that a capture is read with, fresh.
 pub fn opened() -> Receiver
-    ensures { λ r. ⌜ r ≡ openedReceiver 3 ⌝ }
+    ensures { λ r. ⌜ r ≡ openedReceiver (bits16 3) ⌝ }
 {
-    link::receiver::open(SETTINGS)
+    link::receiver::open16(SETTINGS)
 }
 
 // ---- lines

@@ -1,4 +1,4 @@
-// The check sequence's vectors: document 01, "Check sequence", "Marked frames and false friends" and refusal 14; RFC 1662, C.1 and C.2.
+// The check sequence's vectors: document 01, "Check sequence", "Marked frames and false friends" and refusal 14; RFC 1662, C.1 to C.3.
 // A register is shown high octet first.
 use crate::answers::Answers;
 use crate::answers::none;
@@ -36,6 +36,37 @@ pub(crate) fn run() {
         g\x00\x00\x00\x04\x02\x01good\x00\x00\x01\
         g\x00\x00\x00\x04\x04\x01good1111\x00",
     );
+    // E, F, Q, G: the same of 32 bits. The entries that RFC 1662's table misprints, and four that it has right; the packets of the marked frames,
+    // and the test of RFC 1662's C.3: a packet and its FCS end at DEBB20E3. The numbers are zlib's, which has the same check. That of 31 to 39 is
+    // CB F4 39 26, and is sent low octet first.
+    rows::compare_all(
+        b"E\x00\x00\x00\x10\x00\x0432 bits, entry 0\x00\x00\x00\x00\
+        E\x01\x00\x00\x10\x00\x0432 bits, entry 1w\x070\x96\
+        E\x0f\x00\x00\x11\x00\x0432 bits, entry 15\x90\xbf\x1d\x91\
+        E\x14\x00\x00\x11\x00\x0432 bits, entry 20\x1a\xda\xd4}\
+        E\x66\x00\x00\x12\x00\x0432 bits, entry 102\xa4\xd1\xc4m\
+        E\x80\x00\x00\x12\x00\x0432 bits, entry 128\xed\xb8\x83 \
+        E\x99\x00\x00\x12\x00\x0432 bits, entry 153\x89\xd3+\xe0\
+        E\xa1\x00\x00\x12\x00\x0432 bits, entry 161\xa1\xd1\x93\x7e\
+        E\xa9\x00\x00\x12\x00\x0432 bits, entry 169\xaf\x0a\x1bL\
+        E\xe5\x00\x00\x12\x00\x0432 bits, entry 229\xd0`\x16\xf7\
+        E\xed\x00\x00\x12\x00\x0432 bits, entry 237\xde\xbb\x9e\xc5\
+        E\xff\x00\x00\x12\x00\x0432 bits, entry 255-\x02\xef\x8d\
+        F\x00\x00\x00\x0f\x09\x0432 bits, FCS of123456789&9\xf4\xcb\
+        Q\x00\x00\x00\x16\x0d\x0432 bits, register over123456789&9\xf4\xcb\xde\xbb \xe3\
+        G\x00\x00\x00\x0d\x0d\x0132 bits, good123456789&9\xf4\xcb\x01\
+        F\x00\x00\x00\x0f\x02\x0432 bits, FCS of\x00\x00\xff\x12\xd9A\
+        Q\x00\x00\x00\x16\x06\x0432 bits, register over\x00\x00\xff\x12\xd9A\xde\xbb \xe3\
+        G\x00\x00\x00\x0d\x06\x0132 bits, good\x00\x00\xff\x12\xd9A\x01\
+        F\x00\x00\x00\x0f\x02\x0432 bits, FCS of\x7e\x7e\xbc\x1a\xd8G\
+        Q\x00\x00\x00\x16\x06\x0432 bits, register over\x7e\x7e\xbc\x1a\xd8G\xde\xbb \xe3\
+        G\x00\x00\x00\x0d\x06\x0132 bits, good\x7e\x7e\xbc\x1a\xd8G\x01\
+        F\x00\x00\x00\x0f\x00\x0432 bits, FCS of\x00\x00\x00\x00\
+        Q\x00\x00\x00\x16\x04\x0432 bits, register over\x00\x00\x00\x00\xde\xbb \xe3\
+        G\x00\x00\x00\x0d\x04\x0132 bits, good\x00\x00\x00\x00\x01\
+        Q\x00\x00\x00\x16\x09\x0432 bits, register over1234567894\x0b\xc6\xd9\
+        G\x00\x00\x00\x0d\x06\x0132 bits, good111111\x00",
+    );
 }
 
 pub(crate) fn answer(row: Row, octets: &[u8]) -> Answers {
@@ -46,6 +77,16 @@ pub(crate) fn answer(row: Row, octets: &[u8]) -> Answers {
             let place = [row.settings];
             high_first(fcs::pppfcs16(0, &place))
         }
+        b'E' => {
+            let place = [row.settings];
+            high_first32(fcs::pppfcs32(0, &place))
+        }
+        b'F' => {
+            let sequence = fcs::fcs32(octets);
+            push_all(none(), &sequence)
+        }
+        b'Q' => high_first32(fcs::register32(octets)),
+        b'G' => push(none(), fcs::good32(octets) as u8),
         b'f' => {
             let sequence = fcs::fcs16(octets);
             push_all(none(), &sequence)
@@ -58,6 +99,19 @@ pub(crate) fn answer(row: Row, octets: &[u8]) -> Answers {
 fn high_first(register: u16) -> Answers {
     push(
         push(none(), (register / 256 % 256) as u8),
+        (register % 256) as u8,
+    )
+}
+
+fn high_first32(register: u32) -> Answers {
+    push(
+        push(
+            push(
+                push(none(), (register / 16777216 % 256) as u8),
+                (register / 65536 % 256) as u8,
+            ),
+            (register / 256 % 256) as u8,
+        ),
         (register % 256) as u8,
     )
 }

@@ -78,9 +78,12 @@ fn compare(rows: &[u8]) -> usize
 fn answer(row: Row, octets: &[u8]) -> Answers {
     let asked = row.asked;
     match asked {
-        b'e' | b'f' | b'r' | b'g' => check_sequence::answer(row, octets),
-        b'S' | b'H' | b'T' => two_ends::sent(row, octets),
-        b'R' | b'A' | b'L' => two_ends::received(row, octets),
+        b'e' | b'f' | b'r' | b'g' | b'E' | b'F' | b'Q' | b'G' => check_sequence::answer(
+            row,
+            octets,
+        ),
+        b'S' | b'H' | b'T' | b's' | b'u' | b'o' => two_ends::sent(row, octets),
+        b'R' | b'A' | b'L' | b'w' | b'a' | b'O' => two_ends::received(row, octets),
         _ => code_blocks::answer(row, octets),
     }
 }

@@ -9,6 +9,7 @@ use crate::answers::push_all;
 use crate::answers::push_three;
 use crate::rows;
 use crate::rows::Row;
+use link::Settings;
 use link::receiver::Receiver;
 use link::receiver::Report;
 use link::sender::Lane;
@@ -46,6 +47,41 @@ pub(crate) fn run() {
         A\x03\x00\x00\x27\x01\x02second area of 2050 octets, reported of\x7eR\x02\
         L\x03\x00\x00\x21\x01\x02208 data octets left, reported of\x7eR\x03",
     );
+    // The same with 32 bits (s, u: sent; w: received; a: the second area has 2,052 octets), and with 24 (o, O), which no end is opened with:
+    // both by document 02, slip 1.
+    rows::compare_all(
+        b"s\x03\x00\x00\x10\x09\x1032 bits, sent of123456789D\x0e123456789&9\xf4\xcb\x7e\
+        s\x03\x00\x00\x10\x02\x0832 bits, sent of\x00\x00D\xe0\x05\xff\x12\xd9A\x7e\
+        u\x00\x00\x00\x28\x02\x0932 bits, settings 00, high lane, sent of\x00\x00D\x01\x01\x05\xff\x12\xd9A\x7e\
+        s\x03\x00\x00\x10\x02\x0932 bits, sent of\x7e\x7eD\x07\x00\x00\xbc\x1a\xd8G\x7e\
+        s\x03\x00\x00\x10\x01\x0232 bits, sent of1R\x01\
+        w\x03\x00\x00\x14\x0f\x0c32 bits, reported of\x0e123456789&9\xf4\xcb\x7eP\x00\x09123456789\
+        w\x03\x00\x00\x14\x0d\x0232 bits, reported of\x0c123456789n\x90\x7eR\x0e\
+        w\x03\x00\x00\x14\x06\x0232 bits, reported of\x051111\x7eR\x0d\
+        w\x03\x00\x00\x14\x07\x0232 bits, reported of\x0611111\x7eR\x0d\
+        w\x03\x00\x00\x14\x08\x0232 bits, reported of\x07111111\x7eR\x0e\
+        w\x03\x00\x87\x22\x03\x0232 bits, DF 136 times, reported of\xdf\xdd\x7eR\x0e\
+        w\x03\x00\x87\x22\x03\x0232 bits, DF 136 times, reported of\xdf\xde\x7eR\x0a\
+        a\x03\x00\x00\x30\x01\x0232 bits, second area of 2052 octets, reported of\x7eR\x02\
+        o\x03\x00\x00\x10\x01\x0224 bits, sent of1R\x03\
+        O\x03\x00\x00\x14\x01\x0224 bits, reported of\x7eR\x03",
+    );
+}
+
+// The width that is asked for.
+fn width(asked: u8) -> u8 {
+    match asked {
+        b's' | b'u' | b'w' | b'a' => 32,
+        b'o' | b'O' => 24,
+        _ => 16,
+    }
+}
+
+fn settings(row: Row) -> Settings {
+    Settings {
+        octet: row.settings,
+        width: width(row.asked),
+    }
 }
 
 fn refused(answers: Answers, n: u8) -> Answers {
@@ -71,10 +107,10 @@ fn load(sending: Sending, lane: Lane, packet: &[u8], area: &mut [u8]) -> Sending
     Sending { state, answers }
 }
 
-// A fresh sender, loaded once or twice.
-fn load_fresh(row: Row, lane: Lane, packet: &[u8], area: &mut [u8]) -> Sending {
+// A fresh sender is loaded once or twice.
+fn load_fresh(row: Row, state: Sender, lane: Lane, packet: &[u8], area: &mut [u8]) -> Sending {
     let fresh = Sending {
-        state: link::sender::open(row.settings),
+        state,
         answers: none(),
     };
     let once = load(fresh, lane, packet, area);
@@ -85,15 +121,23 @@ fn load_fresh(row: Row, lane: Lane, packet: &[u8], area: &mut [u8]) -> Sending {
 }
 
 // It is then asked for octets until it is idle.
-pub(crate) fn sent(row: Row, packet: &[u8]) -> Answers {
-    let mut area = [0u8; 2050];
-    let empty = [0u8; 2050];
-    if row.asked == b'H' {
-        let high = load_fresh(row, Lane::High, packet, &mut area);
+fn sent_by(state: Sender, row: Row, packet: &[u8]) -> Answers {
+    let mut area = [0u8; 2052];
+    let empty = [0u8; 2052];
+    if (row.asked == b'H') | (row.asked == b'u') {
+        let high = load_fresh(row, state, Lane::High, packet, &mut area);
         return drain(high, &empty, &area);
     }
-    let low = load_fresh(row, Lane::Low, packet, &mut area);
+    let low = load_fresh(row, state, Lane::Low, packet, &mut area);
     drain(low, &area, &empty)
+}
+
+pub(crate) fn sent(row: Row, packet: &[u8]) -> Answers {
+    let opening = link::sender::open(settings(row));
+    match opening {
+        link::sender::Opening::Opened(state) => sent_by(state, row, packet),
+        link::sender::Opening::Refused(n) => refused(none(), n),
+    }
 }
 
 fn drain<'a>(sending: Sending, low: &'a [u8], high: &'a [u8]) -> Answers {
@@ -119,19 +163,29 @@ fn told(answers: Answers, answer: NextAnswer) -> Answers {
 }
 
 fn lent(asked: u8) -> usize
-    ensures { λ r. ⌜ r ≤ 2051 ⌝ }
+    ensures { λ r. ⌜ r ≤ 2053 ⌝ }
 {
-    if asked == b'A' {
-        return 2050;
+    match asked {
+        b'A' => 2050,
+        b'a' => 2052,
+        b'w' => 2053,
+        _ => 2051,
     }
-    2051
 }
 
 // A fresh receiver takes the octets.
 pub(crate) fn received(row: Row, line: &[u8]) -> Answers {
-    let mut first = [0u8; 2051];
-    let mut second = [0u8; 2051];
-    let mut state = link::receiver::open(row.settings);
+    let opening = link::receiver::open(settings(row));
+    match opening {
+        link::receiver::Opening::Opened(state) => received_by(state, row, line),
+        link::receiver::Opening::Refused(n) => refused(none(), n),
+    }
+}
+
+fn received_by(fresh: Receiver, row: Row, line: &[u8]) -> Answers {
+    let mut first = [0u8; 2053];
+    let mut second = [0u8; 2053];
+    let mut state = fresh;
     if row.asked == b'L' {
         state.left = 208;
     }

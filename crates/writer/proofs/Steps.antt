@@ -18,11 +18,13 @@ use Rattle.link.specs.Answers.{Answer, done, octet, idle, quiet, packet, held, 
 use Rattle.link.specs.declared.sender.NextAnswer.{NextAnswer}
 use Rattle.link.specs.declared.sender.NextAnswer.the-variants.{Octet, Idle, Refused}
 use Rattle.link.proofs.sender.NextAnswer.{enum}
+use Rattle.link.specs.declared.Settings.{Settings}
 use Rattle.link.specs.declared.sender.Sender.{Sender}
 use Rattle.link.specs.declared.sender.Lane.{Lane}
 use Rattle.link.specs.declared.sender.Lane.the-variants.{Low as low, High as high}
 use Rattle.link.specs.Sender.{SenderEnd, Next, laneArea, laneState, next, seen}
 use Rattle.link.specs.SenderParts.{SenderReady}
+use Rattle.link.proofs.EachCall.{settings-stay}
 use Rattle.link.proofs.WriteOn.{octet-ready, sent, Stretch, first, rest, inside, plain}
 use Rattle.writer.specs.Writing.{Wrote, writesNothing, octetFirst, byAnswer, writeOn, fromPlace}
 use Rattle.writer.specs.Pieces.{NoOctet}
@@ -54,6 +56,28 @@ ends e line i l = let z : length line - i ≡ 0 = omega arith in rw z (stays i l
 -- after an octet the sender is in bounds, and its areas are long enough
 pub ready-after : (e : SenderEnd) (a : NextAnswer) (t : Sender) → record { answer = nextAnswer a; state = t } ≡ seen (next e) → (x : ℕ) → a ≡ Octet x → SenderReady (with t e)
 ready-after e a t p x q = octet-ready e x t (rw q at p)
+
+-- nor does a call change the width
+pub width-stays : (e : SenderEnd) (a : NextAnswer) (t : Sender) → record { answer = nextAnswer a; state = t } ≡ seen (next e) → t .settings .width ≡ e .state .settings .width
+width-stays e a t p = ap (λ (h : Next). h .state .settings .width) p ∙ ap (λ (x : Settings). x .width) (settings-stay .next e)
+
+-- a sender with a width stored in it; where it is its own, it writes on as it did
+abbrev withWidth : ℕ → Sender → Sender
+withWidth w s =
+    record {
+      low = s .low;
+      high = s .high;
+      left = s .left;
+      zeros = s .zeros;
+      on = s .on;
+      suspended = s .suspended;
+      cut = s .cut;
+      settings = record { octet = s .settings .octet; width = w };
+    }
+
+pub width-stored : (s : Sender) (w i : ℕ) (line : List ℕ) (n : ℕ) (al ah : List ℕ) → s .settings .width ≡ w
+    → fromPlace i line (writeOn n (record { state = s; low = al; high = ah })) ≡ fromPlace i line (writeOn n (record { state = withWidth w s; low = al; high = ah }))
+width-stored s w i line n al ah e = ap (λ (x : ℕ). fromPlace i line (writeOn n (record { state = withWidth x s; low = al; high = ah }))) e
 
 -- by the answer of a call
 module _ (e : SenderEnd) (line : List ℕ) (i : ℕ) (l : i < length line) (a : NextAnswer) (t : Sender) (p : record { answer = nextAnswer a; state = t } ≡ seen (next e)) where

@@ -21,6 +21,14 @@ add-at c =
     let l = a .before .before in
     omega (arith, l .loop .inv .0, k .print .ensures .1 .0, a .print-arg .given, l .before .before .before .before .before .good)
 
+loop-less : tie.Need-loop-less Inv-loop μ-loop
+loop-less c =
+    let k = c .before .before .before .before .before .before .before .before .before .before .before .before in
+    let a = k .before .before .before .before in
+    let t = a .before in
+    let l = t .before in
+    omega (arith, l .loop .inv, k .print .ensures .1, a .print-arg .given, t .loop-test .taken, l .before .before .before .before .before .pre)
+
 pub write-spec : {M : Type 1} → statement M
 write-spec =
     tie.close
@@ -43,7 +51,7 @@ write-spec =
     (λ c. search needs)
     (λ c. search needs)
     (λ c. search needs)
-    (λ c. search needs)
+    loop-less
     (λ c. search needs)
     (λ c. search needs)
     (λ c. search needs)

@@ -4,7 +4,6 @@ use mathlib.Core.Path.{sym, ap, _∙_}
 use borrow.Author.Tests.{not-true, not-false}
 use Rattle.link.specs.declared.sender.Sender.{Sender}
 use Rattle.link.specs.Sender.{next, seen}
-use Rattle.kutarehopa.specs.Layout.{octetAt}
 use Rattle.kutarehopa.specs.Calls.{sent}
 use Rattle.kutarehopa.proofs.Calls.{no-sender, a-sender}
 use Rattle.kutarehopa.proofs.kuta_next.Statement.{statement}
@@ -13,22 +12,21 @@ use Rattle.kutarehopa.proofs.kuta_next.Tie as tie
 spells-requires : tie.Need-spells-requires
 spells-requires c κs = search needs
 
+settings-in-requires : tie.Need-settings-in-requires
+settings-in-requires c κs = search needs
+
 short-for-sender-requires : tie.Need-short-for-sender-requires
 short-for-sender-requires c κs = search needs
-
-short-for-sender-requires-2 : tie.Need-short-for-sender-requires-2
-short-for-sender-requires-2 c κs = search needs
 
 no-state-requires : tie.Need-no-state-requires
 no-state-requires c κs = search needs
 
 returns : tie.Need-returns
 returns c =
-    let t = c .before .before .before in
+    let t = c .before .before .before .before in
     let a = t .before .before .before .before .before .args in
     let n = sym (t .before .spells .ensures) ∙ not-true (t .before .spells .result) (t .if1 .taken) in
-    let g = octetAt (a .state .now) 4 in
-    rw (c .no-state .ensures, c .before .short-for-sender2 .ensures g, c .before .before .short-for-sender .ensures g) (sym (no-sender (a .state .now) (a .low .now) (a .high .now) n))
+    rw (c .no-state .ensures, c .before .short-for-sender .ensures, c .before .before .settings-in .ensures) (sym (no-sender (a .state .now) (a .low .now) (a .high .now) n))
 
 unpack-requires : tie.Need-unpack-requires
 unpack-requires c κs = search needs
@@ -50,8 +48,8 @@ kuta-next-spec =
     tie.close
     (tie.spec
     spells-requires
+    settings-in-requires
     short-for-sender-requires
-    short-for-sender-requires-2
     no-state-requires
     returns
     unpack-requires

@@ -4,7 +4,6 @@ use mathlib.Core.Path.{sym, ap, _∙_}
 use borrow.Author.Tests.{not-true, not-false}
 use Rattle.link.specs.declared.receiver.Receiver.{Receiver}
 use Rattle.reader.specs.Reading.{readOn}
-use Rattle.kutarehopa.specs.Layout.{octetAt}
 use Rattle.kutarehopa.specs.Calls.{readTo}
 use Rattle.kutarehopa.proofs.Calls.{reads-nothing, no-reader, a-reader}
 use Rattle.kutarehopa.proofs.kuta_read_on.Statement.{statement}
@@ -21,6 +20,9 @@ returns c =
 spells-requires : tie.Need-spells-requires
 spells-requires c κs = search needs
 
+settings-in-requires : tie.Need-settings-in-requires
+settings-in-requires c κs = search needs
+
 short-for-receiver-requires : tie.Need-short-for-receiver-requires
 short-for-receiver-requires c κs = search needs
 
@@ -29,11 +31,11 @@ no-state-requires c κs = search needs
 
 returns-2 : tie.Need-returns-2
 returns-2 c =
-    let t = c .before .before in
+    let t = c .before .before .before .before in
     let some = t .before .before .before in
     let a = some .before .before .before .before .args in
     let n = sym (t .before .spells .ensures) ∙ not-true (t .before .spells .result) (t .if2 .taken) in
-    rw (c .no-state .ensures, c .before .short-for-receiver .ensures (octetAt (a .state .now) 4))
+    rw (c .no-state .ensures, c .before .short-for-receiver .ensures, c .before .before .settings-in .ensures)
     (sym (no-reader (a .state .now) (a .first .now) (a .second .now) n (a .octets .now) (some .if1 .left)))
 
 unpack-requires : tie.Need-unpack-requires
@@ -66,6 +68,7 @@ kuta-read-on-spec =
     quiet-requires
     returns
     spells-requires
+    settings-in-requires
     short-for-receiver-requires
     no-state-requires
     returns-2

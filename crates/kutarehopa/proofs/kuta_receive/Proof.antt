@@ -4,7 +4,6 @@ use mathlib.Core.Path.{sym, ap, _∙_}
 use borrow.Author.Tests.{not-true, not-false}
 use Rattle.link.specs.declared.receiver.Receiver.{Receiver}
 use Rattle.link.specs.Receiver.{receive}
-use Rattle.kutarehopa.specs.Layout.{octetAt}
 use Rattle.kutarehopa.specs.Calls.{received}
 use Rattle.kutarehopa.proofs.Calls.{no-receiver, a-receiver}
 use Rattle.kutarehopa.proofs.kuta_receive.Statement.{statement}
@@ -12,6 +11,9 @@ use Rattle.kutarehopa.proofs.kuta_receive.Tie as tie
 
 spells-requires : tie.Need-spells-requires
 spells-requires c κs = search needs
+
+settings-in-requires : tie.Need-settings-in-requires
+settings-in-requires c κs = search needs
 
 short-for-receiver-requires : tie.Need-short-for-receiver-requires
 short-for-receiver-requires c κs = search needs
@@ -21,10 +23,10 @@ no-state-requires c κs = search needs
 
 returns : tie.Need-returns
 returns c =
-    let t = c .before .before in
+    let t = c .before .before .before .before in
     let a = t .before .before .before .before .before .args in
     let n = sym (t .before .spells .ensures) ∙ not-true (t .before .spells .result) (t .if1 .taken) in
-    rw (c .no-state .ensures, c .before .short-for-receiver .ensures (octetAt (a .state .now) 4)) (sym (no-receiver (a .state .now) (a .first .now) (a .second .now) n (a .octet)))
+    rw (c .no-state .ensures, c .before .short-for-receiver .ensures, c .before .before .settings-in .ensures) (sym (no-receiver (a .state .now) (a .first .now) (a .second .now) n (a .octet)))
 
 unpack-requires : tie.Need-unpack-requires
 unpack-requires c κs = search needs
@@ -53,6 +55,7 @@ kuta-receive-spec =
     tie.close
     (tie.spec
     spells-requires
+    settings-in-requires
     short-for-receiver-requires
     no-state-requires
     returns

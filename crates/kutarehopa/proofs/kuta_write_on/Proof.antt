@@ -6,7 +6,6 @@ use Rattle.link.specs.declared.sender.Sender.{Sender}
 use lib.ListN.{length}
 use Rattle.link.specs.Sender.{SenderEnd, next, seen}
 use Rattle.writer.specs.Writing.{writeOn, onto}
-use Rattle.kutarehopa.specs.Layout.{octetAt}
 use Rattle.kutarehopa.specs.Calls.{wrote}
 use Rattle.kutarehopa.proofs.Calls.{writes-nothing, no-writer, a-writer}
 use Rattle.kutarehopa.proofs.kuta_write_on.Statement.{statement}
@@ -23,23 +22,22 @@ returns c =
 spells-requires : tie.Need-spells-requires
 spells-requires c κs = search needs
 
+settings-in-requires : tie.Need-settings-in-requires
+settings-in-requires c κs = search needs
+
 short-for-sender-requires : tie.Need-short-for-sender-requires
 short-for-sender-requires c κs = search needs
-
-short-for-sender-requires-2 : tie.Need-short-for-sender-requires-2
-short-for-sender-requires-2 c κs = search needs
 
 no-state-requires : tie.Need-no-state-requires
 no-state-requires c κs = search needs
 
 returns-2 : tie.Need-returns-2
 returns-2 c =
-    let t = c .before .before .before in
+    let t = c .before .before .before .before in
     let room = t .before .before .before in
     let a = room .before .before .before .before .args in
     let n = sym (t .before .spells .ensures) ∙ not-true (t .before .spells .result) (t .if2 .taken) in
-    let g = octetAt (a .state .now) 4 in
-    rw (c .no-state .ensures, c .before .short-for-sender2 .ensures g, c .before .before .short-for-sender .ensures g)
+    rw (c .no-state .ensures, c .before .short-for-sender .ensures, c .before .before .settings-in .ensures)
     (sym (no-writer (a .state .now) (a .low .now) (a .high .now) n (a .line .now) (room .if1 .left)))
 
 unpack-requires : tie.Need-unpack-requires
@@ -69,8 +67,8 @@ kuta-write-on-spec =
     quiet-requires
     returns
     spells-requires
+    settings-in-requires
     short-for-sender-requires
-    short-for-sender-requires-2
     no-state-requires
     returns-2
     unpack-requires

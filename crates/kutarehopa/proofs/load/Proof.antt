@@ -4,7 +4,6 @@ use mathlib.Core.Path.{sym, ap, _∙_}
 use borrow.Author.Tests.{not-true, not-false}
 use Rattle.link.specs.declared.sender.Sender.{Sender}
 use Rattle.link.specs.Sender.{load}
-use Rattle.kutarehopa.specs.Layout.{octetAt}
 use Rattle.kutarehopa.specs.Calls.{loaded}
 use Rattle.kutarehopa.proofs.Calls.{no-loader, a-loader}
 use Rattle.kutarehopa.proofs.load.Statement.{statement}
@@ -13,18 +12,21 @@ use Rattle.kutarehopa.proofs.load.Tie as tie
 spells-requires : tie.Need-spells-requires
 spells-requires c κs = search needs
 
-short-for-sender-requires : tie.Need-short-for-sender-requires
-short-for-sender-requires c κs = search needs
+settings-in-requires : tie.Need-settings-in-requires
+settings-in-requires c κs = search needs
+
+largest-frame-requires : tie.Need-largest-frame-requires
+largest-frame-requires c κs = search needs
 
 no-state-requires : tie.Need-no-state-requires
 no-state-requires c κs = search needs
 
 returns : tie.Need-returns
 returns c =
-    let t = c .before .before in
+    let t = c .before .before .before .before in
     let a = t .before .before .before .before .before .args in
     let n = sym (t .before .spells .ensures) ∙ not-true (t .before .spells .result) (t .if1 .taken) in
-    rw (c .no-state .ensures, c .before .short-for-sender .ensures (octetAt (a .state .now) 4)) (sym (no-loader (a .lane) (a .state .now) (a .packet .now) (a .area .now) n))
+    rw (c .no-state .ensures, c .before .largest-frame .ensures, c .before .before .settings-in .ensures) (sym (no-loader (a .lane) (a .state .now) (a .packet .now) (a .area .now) n))
 
 unpack-requires : tie.Need-unpack-requires
 unpack-requires c κs = search needs
@@ -50,7 +52,8 @@ load-spec =
     tie.close
     (tie.spec
     spells-requires
-    short-for-sender-requires
+    settings-in-requires
+    largest-frame-requires
     no-state-requires
     returns
     unpack-requires

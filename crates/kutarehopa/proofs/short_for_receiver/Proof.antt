@@ -1,10 +1,13 @@
 -- `kutarehopa::short_for_receiver`.
-use Rattle.link.proofs.Within.{most-is}
+use borrow.Author.Needs.{needs}
 use Rattle.kutarehopa.proofs.short_for_receiver.Statement.{statement}
 use Rattle.kutarehopa.proofs.short_for_receiver.Tie as tie
 
+most-decoded-requires : tie.Need-most-decoded-requires
+most-decoded-requires c κs = search needs
+
 returns : tie.Need-returns
-returns c = λ settings. rw (most-is settings)
+returns c = rw (c .most-decoded .ensures)
 
 pub short-for-receiver-spec : {M : Type 1} → statement M
-short-for-receiver-spec = tie.close (tie.spec returns)
+short-for-receiver-spec = tie.close (tie.spec most-decoded-requires returns)

@@ -1,13 +1,13 @@
 -- `kutarehopa::short_for_sender`.
-use Rattle.link.proofs.Within.{most-is}
-use mathlib.Core.Path.{_≡_}
-use native.Mathlib.Omega.{arith}
-use Rattle.link.specs.Agreed.{agreed, largestFrame}
+use borrow.Author.Needs.{needs}
 use Rattle.kutarehopa.proofs.short_for_sender.Statement.{statement}
 use Rattle.kutarehopa.proofs.short_for_sender.Tie as tie
 
+largest-frame-requires : tie.Need-largest-frame-requires
+largest-frame-requires c κs = search needs
+
 returns : tie.Need-returns
-returns c = λ settings. let frame : largestFrame (agreed settings) ≡ 2050 = omega (arith, most-is settings) in rw frame
+returns c = rw (c .largest-frame .ensures)
 
 pub short-for-sender-spec : {M : Type 1} → statement M
-short-for-sender-spec = tie.close (tie.spec returns)
+short-for-sender-spec = tie.close (tie.spec largest-frame-requires returns)

@@ -1,5 +1,5 @@
 -- `link::claims`: the theorems.
-use Rattle.link.proofs.EachCall.{refused-changes-nothing, idle-changes-nothing, settings-stay, closed-is-empty, done-loads, receives-so}
+use Rattle.link.proofs.EachCall.{valid-first, areas-then-state, refused-changes-nothing, idle-changes-nothing, settings-stay, closed-is-empty, done-loads, receives-so}
 use Rattle.link.proofs.Within.{within}
 use Rattle.link.proofs.InBounds.{keep-bounds, never-out-of-bounds}
 use Rattle.link.proofs.Demands.{sound-line, demand3}
@@ -16,12 +16,12 @@ use Rattle.link.proofs.claims.Tie as tie
 
 returns : tie.Need-returns
 returns c = (
-  (refused-changes-nothing, idle-changes-nothing, settings-stay, closed-is-empty, done-loads, within, receives-so),
+  (valid-first, areas-then-state, refused-changes-nothing, idle-changes-nothing, settings-stay, closed-is-empty, done-loads, within, receives-so),
   (
     (keep-bounds, never-out-of-bounds),
     (
       (idle-if-empty, sent-uninterrupted, rest-uninterrupted, packet-uninterrupted, emptied, urgent-first),
-      ((λ t. (sound-line t, nothing-lost t, delivery t)), ((any-blocks, demand3), (areas-aside, ((marked, at-work), (other-bits, limits, packet-lengths, each-example))))),
+      ((λ t v. (sound-line t v, nothing-lost t v, delivery t v)), ((any-blocks, demand3), (areas-aside, ((marked, at-work), (other-bits, limits, packet-lengths, each-example))))),
     ),
   ),
 )

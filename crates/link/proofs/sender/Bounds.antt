@@ -7,7 +7,7 @@ use native.Mathlib.Omega.{arith}
 use borrow.Author.Tests.{le-ltb, lt-ltb, eqb-false}
 use lib.Dec.{ltb, eqb}
 use lib.ListN.{length}
-use Rattle.link.specs.Agreed.{Agreed, agreed, largestFrame}
+use Rattle.link.specs.Agreed.{Agreed, agreed, largestFrame, valid}
 use Rattle.link.specs.Sender.{LaneState, Sender, SenderEnd, Lane, OnLine, low, high, noLane, sending, inBounds, laneOk, laneState, laneArea, isLow, loaded, laneD}
 use Rattle.link.specs.Sender.{withBlock, positionUp, steps3To6, step5Data, steps1To6, next}
 use Rattle.link.specs.SenderParts.{LaneReady, DataDue}
@@ -62,7 +62,6 @@ module _ (s : Sender) where
 
   pub low-due : (s .suspended || s .cut) ≡ false → s .high .length ≡ 0 → s .high .position ≤ 1 → DataDue (agreed (s .settings)) (s .low .length) (s .low .position) s
       → s .on ≡ sending low → inBounds (agreed (s .settings)) s ≡ true
-  unfolding agreed
   low-due m h p d e =
       let awake = or-left (s .suspended) (s .cut) m in
       let whole = or-right (s .suspended) (s .cut) m in
@@ -80,7 +79,6 @@ module _ (s : Sender) where
 
   pub high-due : s .cut ≡ false → (s .suspended && eqb (s .low .length) 0) ≡ false → laneOk (agreed (s .settings)) (s .low) ≡ true
       → DataDue (agreed (s .settings)) (s .high .length) (s .high .position) s → s .on ≡ sending high → inBounds (agreed (s .settings)) s ≡ true
-  unfolding agreed
   high-due c w q d e =
       in-bounds (agreed (s .settings)) s (record {
         low = ok-lane (agreed (s .settings)) (s .low) q;
@@ -102,13 +100,13 @@ steps-send : (g : Agreed) (l : Lane) (s : Sender) (d : List ℕ) → laneState l
 unfolding steps3To6
 steps-send g l s d p f n = rw (le-ltb _ _ p, f, lt-ltb 0 _ n)
 
-module _ (e : SenderEnd)
+module _ (e : SenderEnd) (v : valid (agreed (e .state .settings)) ≡ true)
     (short : (ltb (length (e .low)) (largestFrame (agreed (e .state .settings))) || ltb (length (e .high)) (largestFrame (agreed (e .state .settings)))) ≡ false)
     (h : inBounds (agreed (e .state .settings)) (e .state) ≡ true) (some : 0 < e .state .left) where
   on-line : (l : Lane) → e .state .on ≡ sending l → e .state .cut ≡ false
       → next e ≡ steps3To6 (agreed (e .state .settings)) l (e .state) (laneD (laneState l (e .state)) (laneArea l e))
   unfolding next steps1To6
-  on-line l o c = rw (short, h, c, o)
+  on-line l o c = rw (v, short, h, c, o)
 
   sends : (l : Lane) → e .state .on ≡ sending l → e .state .cut ≡ false → (isLow l && agreed (e .state .settings) .pre && loaded (e .state .high)) ≡ false
       → laneState l (e .state) .position ≤ laneState l (e .state) .length → next e ≡ step5Data l (e .state) (laneD (laneState l (e .state)) (laneArea l e))

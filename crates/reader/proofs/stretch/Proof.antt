@@ -8,7 +8,7 @@ use lib.ListN.{length, take, length-take}
 use Rattle.link.specs.Agreed.{agreed, mostDecoded}
 use Rattle.link.specs.Receiver.{ReceiverEnd}
 use Rattle.link.proofs.ReadOn.{deep}
-use Rattle.link.proofs.Within.{most-is}
+use Rattle.link.proofs.Agreed.{decoded-at-most}
 use Rattle.reader.specs.Stretches.{beforeFlag}
 use Rattle.reader.proofs.Steps.{begins}
 use Rattle.reader.proofs.Quiet.{within, skips-on, in-second, in-first}
@@ -21,16 +21,16 @@ found s = record { state = s .args .state; first = s .args .first .now; second =
 
 -- where the data octets to be copied are counted
 abbrev start : tie.After-before-flag2 → tie.Start
-start c = c .before .before .before .before .before .before .before .before .before .before .before .before
+start c = c .before .before .before .before .before .before .before .before .before .before .before .before .before
 
 -- no more than are left before the last, than there is room for, and than there are
 most : (c : tie.After-lesser2)
-    → (let s = c .before .before .before .before .before .before .before .before .before .before in
+    → (let s = c .before .before .before .before .before .before .before .before .before .before .before in
     (c .lesser2 .result < s .args .state .left) × (s .args .state .decoded + c .lesser2 .result ≤ mostDecoded (agreed (s .args .state .settings))) × (c .lesser2 .result ≤ length (s .args .octets .now)))
 most c =
     let k = c .before in
-    let s = k .before .before .before .before .before .before .before .before .before in
-    omega (arith, c .lesser2 .ensures, k .lesser .ensures, k .before .before .if2 .left, deep (found s) (s .pre), most-is (s .args .state .settings))
+    let s = k .before .before .before .before .before .before .before .before .before .before in
+    omega (arith, c .lesser2 .ensures, k .lesser .ensures, k .before .most-decoded .ensures, k .before .before .before .if2 .left, deep (found s) (s .pre))
 
 counted : (c : tie.After-before-flag2) → c .before-flag2 .result ≡ beforeFlag (take (c .before .before .lesser2 .result) (start c .args .octets .now))
 counted c = rw sub-zero at (c .before-flag2 .ensures)
@@ -43,7 +43,7 @@ used c =
 
 -- no refusal is remembered
 clean : (c : tie.After-before-flag2) → start c .args .state .refusal ≡ 0
-clean c = c .before .before .before .before .before .before .before .if1 .left
+clean c = c .before .before .before .before .before .before .before .before .if1 .left
 
 -- both areas have room for them
 fits : (c : tie.After-before-flag2)
@@ -52,7 +52,7 @@ fits : (c : tie.After-before-flag2)
     (n ≤ length (s .args .first .now)) × (n ≤ length (s .args .second .now)))
 fits c =
     let s = start c in
-    omega (arith, used c, most (c .before .before), length-take (c .before-flag2 .result - 0) (s .args .octets .now), s .pre)
+    omega (arith, used c, most (c .before .before), length-take (c .before-flag2 .result - 0) (s .args .octets .now), s .pre .first, s .pre .second)
 
 before-flag-requires : tie.Need-before-flag-requires
 before-flag-requires c κs = search needs
@@ -75,8 +75,11 @@ cast-at c = search needs
 sub-lesser : tie.Need-sub-lesser
 sub-lesser c = search needs
 
+most-decoded-requires : tie.Need-most-decoded-requires
+most-decoded-requires c κs = search needs
+
 sub-lesser-2 : tie.Need-sub-lesser-2
-sub-lesser-2 c = let s = c .before .before .before .before .before .before .before .before in omega (arith, deep (found s) (s .pre), most-is (s .args .state .settings))
+sub-lesser-2 c = let s = c .before .before .before .before .before .before .before .before .before in omega (arith, c .most-decoded .ensures, deep (found s) (s .pre))
 
 lesser-requires : tie.Need-lesser-requires
 lesser-requires c κs = search needs
@@ -97,10 +100,10 @@ before-flag-requires-2 : tie.Need-before-flag-requires-2
 before-flag-requires-2 c κs = search needs
 
 add-decoded : tie.Need-add-decoded
-add-decoded c = omega (arith, used c, most (c .before .before))
+add-decoded c = omega (arith, used c, most (c .before .before), decoded-at-most (start c .args .state .settings))
 
 cast-decoded : tie.Need-cast-decoded
-cast-decoded c = omega (arith, used c, most (c .before .before))
+cast-decoded c = omega (arith, used c, most (c .before .before), decoded-at-most (start c .args .state .settings))
 
 sub-left : tie.Need-sub-left
 sub-left c = omega (arith, used c, most (c .before .before))
@@ -157,6 +160,7 @@ stretch-spec =
     returns-2
     cast-at
     sub-lesser
+    most-decoded-requires
     sub-lesser-2
     lesser-requires
     lesser-requires-2

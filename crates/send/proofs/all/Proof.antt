@@ -7,10 +7,10 @@ use Rattle.send.proofs.all.Statement.{statement}
 use Rattle.send.proofs.all.Tie as tie
 
 abbrev Inv-loop : tie.InvT-loop
-Inv-loop fd settings input₀ page₀ low₀ high₀ line₀ kept₀ records₀ octets₀ fault₀ reads₀ input page low high line kept records octets fault reads = (line .filled < 65536) × (kept ≤ 131072) × (131072 ≡ length input) × (65536 ≡ length page) × (2050 ≡ length low) × (2050 ≡ length high)
+Inv-loop fd input₀ page₀ low₀ high₀ line₀ kept₀ records₀ octets₀ fault₀ reads₀ input page low high line kept records octets fault reads = (line .filled < 65536) × (kept ≤ 131072) × (131072 ≡ length input) × (65536 ≡ length page) × (2052 ≡ length low) × (2052 ≡ length high)
 
 abbrev μ-loop : tie.MeasureT-loop
-μ-loop fd settings input₀ page₀ low₀ high₀ line₀ kept₀ records₀ octets₀ fault₀ reads₀ input page low high line kept records octets fault reads = reads
+μ-loop fd input₀ page₀ low₀ high₀ line₀ kept₀ records₀ octets₀ fault₀ reads₀ input page low high line kept records octets fault reads = reads
 
 pub all-spec : {M : Type 1} → statement M
 all-spec =
@@ -20,7 +20,7 @@ all-spec =
     μ-loop
     (λ c κs. search needs)
     (λ c κs. search needs)
-    (λ c κs. search needs)
+    (λ c. search needs)
     (λ c. search needs)
     (λ c. search needs)
     (λ c. search needs)

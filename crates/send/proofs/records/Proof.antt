@@ -36,7 +36,11 @@ record-requires : tie.Need-record-requires Inv-loop μ-loop
 record-requires c κs = search needs
 
 add-whole : tie.Need-add-whole Inv-loop μ-loop
-add-whole c = search needs
+add-whole c =
+    let k = c .before .before .before .before .before .before .before .before in
+    let a = k .before .before .before .before in
+    let l = a .before .before in
+    omega (arith, l .loop .inv .0, l .loop .inv .1, a .record-arg .given, l .before .before .before .before .before .good)
 
 loop-less : tie.Need-loop-less Inv-loop μ-loop
 loop-less c = search needs

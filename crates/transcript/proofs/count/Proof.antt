@@ -1,6 +1,7 @@
 -- `transcript::count`. The loop's invariant: noting the reports of what is left, from where the loop is, is noting those of all octets.
 use mathlib.Core.Path.{_≡_, refl, sym, _∙_}
 use Prim.Native.Nat.{_-_, _≤_}
+use native.Mathlib.Omega.{arith}
 use borrow.Author.Needs.{needs}
 use lib.ListN.{length, drop}
 use Rattle.link.specs.Runs.{received}
@@ -39,7 +40,10 @@ read-on-requires : tie.Need-read-on-requires Inv-loop μ-loop
 read-on-requires c κs = search needs
 
 add-i : tie.Need-add-i Inv-loop μ-loop
-add-i c = search needs
+add-i c =
+    let k = c .before .before .before .before .before .before in
+    let l = k .before .before .before .before .before in
+    omega (arith, l .loop .inv .0, k .read-on .ensures .1 .1, k .before .before .before .read-on-arg .given, l .before .before .before .before .good)
 
 note-requires : tie.Need-note-requires Inv-loop μ-loop
 note-requires c κs = search needs

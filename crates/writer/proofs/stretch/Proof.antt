@@ -1,5 +1,5 @@
 -- `writer::stretch` meets its contract.
-use mathlib.Core.Path.{ap, _∙_}
+use mathlib.Core.Path.{refl, ap, _∙_}
 use Prim.Native.Nat.{_+_, _≤_}
 use native.Mathlib.Omega.{arith}
 use borrow.Author.Needs.{needs}
@@ -7,7 +7,7 @@ use lib.ListN.{length}
 use Rattle.link.specs.declared.sender.Lane.the-variants.{Low as low, High as high}
 use Rattle.link.specs.declared.sender.OnLine.the-variants.{Sending}
 use Rattle.link.proofs.SenderBounds.{low-high}
-use Rattle.link.proofs.Within.{most-is}
+use Rattle.link.proofs.Agreed.{frame-at-most}
 use Rattle.link.proofs.WriteOn.{Stretch, block-in-area}
 use Rattle.writer.proofs.Steps.{stretches}
 use Rattle.writer.proofs.stretch.Statement.{statement}
@@ -29,7 +29,7 @@ add-position c =
     let s = o .before .before .before .before .before .before in
     let on = o .on .given .1 ∙ ap Sending (c .before .before .before .before .before .before .before .before .enum-told2 .given .1) in
     let b = block-in-area low _ (s .pre .0) on in
-    omega (arith, b, most-is (s .args .state .settings), l .lesser .ensures, o .before .before .if1 .left)
+    omega (arith, b, frame-at-most (s .args .state .settings), l .lesser .ensures, o .before .before .if1 .left)
 
 copy-requires-2 : tie.Need-copy-requires-2
 copy-requires-2 c κs =
@@ -47,7 +47,7 @@ add-position-2 c =
     let s = o .before .before .before .before .before .before in
     let on = o .on .given .1 ∙ ap Sending (c .before .before .before .before .before .before .enum-told3 .given .1) in
     let b = block-in-area high _ (s .pre .0) on in
-    omega (arith, b, most-is (s .args .state .settings), l .lesser .ensures, o .before .before .if1 .left)
+    omega (arith, b, frame-at-most (s .args .state .settings), l .lesser .ensures, o .before .before .if1 .left)
 
 returns-4 : tie.Need-returns-4
 returns-4 c =
@@ -60,7 +60,7 @@ returns-4 c =
     let k : s .args .at + l .lesser .result ≤ length (s .args .line .now) = omega (arith, l .lesser .ensures, s .pre .1) in
     let j : s .args .state .low .position + l .lesser .result ≤ length (s .args .low .now) =
     omega (arith, b, l .lesser .ensures, o .before .before .if1 .left, s .pre .0 .low) in
-    (rw (c .before .before .before .before .copy .ensures) (stretches low (l .lesser .result) _ (s .args .line .now) (s .args .at) h k j), (omega arith, search needs))
+    (rw (c .before .before .before .before .copy .ensures) (stretches low (l .lesser .result) _ (s .args .line .now) (s .args .at) h k j), ((omega arith, search needs), refl))
 
 returns-5 : tie.Need-returns-5
 returns-5 c =
@@ -73,16 +73,16 @@ returns-5 c =
     let k : s .args .at + l .lesser .result ≤ length (s .args .line .now) = omega (arith, l .lesser .ensures, s .pre .1) in
     let j : s .args .state .high .position + l .lesser .result ≤ length (s .args .high .now) =
     omega (arith, b, l .lesser .ensures, o .before .before .if1 .left, s .pre .0 .high) in
-    (rw (c .before .before .before .before .copy2 .ensures) (stretches high (l .lesser .result) _ (s .args .line .now) (s .args .at) h k j), (omega arith, search needs))
+    (rw (c .before .before .before .before .copy2 .ensures) (stretches high (l .lesser .result) _ (s .args .line .now) (s .args .at) h k j), ((omega arith, search needs), refl))
 
 pub stretch-spec : {M : Type 1} → statement M
 stretch-spec =
     tie.close
     (tie.spec
+    (λ c. (refl, ((search needs, search needs), refl)))
     (λ c. search needs)
     (λ c. search needs)
-    (λ c. search needs)
-    (λ c. search needs)
+    (λ c. (refl, ((search needs, search needs), refl)))
     (λ c. search needs)
     (λ c. search needs)
     (λ c. search needs)
@@ -92,7 +92,7 @@ stretch-spec =
     (λ c. search needs)
     (λ c. search needs)
     (λ c. search needs)
-    (λ c. search needs)
+    (λ c. (refl, ((search needs, search needs), refl)))
     (λ c. search needs)
     (λ c. search needs)
     copy-requires

@@ -118,7 +118,7 @@ returns : tie.Need-returns
 unfolding receiverOctets
 returns c =
     let l = c .before .before .before .before .before in
-    let w = l .before .before .before in
+    let w = l .before .before .before .before in
     let a = w .before .before .args in
     rw (l .last-octet .ensures, l .before .held-count .ensures, l .before .before .held-octet .ensures)
     (sets-eq (receiverOctets (a .r)) (a .state .now) 0 (omega (arith, w)))

@@ -1,8 +1,11 @@
 -- `kutarehopa::receiver::unpack`.
-use borrow.Author.Needs.{needs}
 use Rattle.kutarehopa.specs.Layout.{receiverIn}
+use borrow.Author.Needs.{needs}
 use Rattle.kutarehopa.proofs.receiver.unpack.Statement.{statement}
 use Rattle.kutarehopa.proofs.receiver.unpack.Tie as tie
+
+settings-in-requires : tie.Need-settings-in-requires
+settings-in-requires c κs = search needs
 
 element-copy-out-fragment : tie.Need-element-copy-out-fragment
 element-copy-out-fragment c = search needs
@@ -25,26 +28,23 @@ element-copy-out-last-block c = search needs
 last-block-requires : tie.Need-last-block-requires
 last-block-requires c κs = search needs
 
-element-copy-out-t13 : tie.Need-element-copy-out-t13
-element-copy-out-t13 c = search needs
+element-copy-out-t14 : tie.Need-element-copy-out-t14
+element-copy-out-t14 c = search needs
 
-element-copy-out-t6 : tie.Need-element-copy-out-t6
-element-copy-out-t6 c = search needs
+element-copy-out-t7 : tie.Need-element-copy-out-t7
+element-copy-out-t7 c = search needs
 
-element-copy-out-t10 : tie.Need-element-copy-out-t10
-element-copy-out-t10 c = search needs
+element-copy-out-t11 : tie.Need-element-copy-out-t11
+element-copy-out-t11 c = search needs
 
-element-copy-out-t25 : tie.Need-element-copy-out-t25
-element-copy-out-t25 c = search needs
+element-copy-out-t26 : tie.Need-element-copy-out-t26
+element-copy-out-t26 c = search needs
 
-element-copy-out-t28 : tie.Need-element-copy-out-t28
-element-copy-out-t28 c = search needs
+element-copy-out-t30 : tie.Need-element-copy-out-t30
+element-copy-out-t30 c = search needs
 
-element-copy-out-t32 : tie.Need-element-copy-out-t32
-element-copy-out-t32 c = search needs
-
-element-copy-out-t36 : tie.Need-element-copy-out-t36
-element-copy-out-t36 c = search needs
+element-copy-out-t34 : tie.Need-element-copy-out-t34
+element-copy-out-t34 c = search needs
 
 element-copy-out-number-3 : tie.Need-element-copy-out-number-3
 element-copy-out-number-3 c = search needs
@@ -58,14 +58,15 @@ number-requires-2 c κs = search needs
 returns : tie.Need-returns
 unfolding receiverIn
 returns c =
-    let l = c .before .before .before .before .before .before .before .before .before .before in
+    let l = c .before .before .before .before .before .before .before .before .before in
     let f = l .before .before in
-    rw (c .number2 .ensures, l .last-block .ensures, f .fragment .ensures, f .before .number .ensures)
+    rw (c .number2 .ensures, l .last-block .ensures, f .fragment .ensures, f .before .number .ensures, f .before .before .before .before .before .settings-in .ensures)
 
 pub unpack-spec : {M : Type 1} → statement M
 unpack-spec =
     tie.close
     (tie.spec
+    settings-in-requires
     element-copy-out-fragment
     element-copy-out-number
     element-copy-out-number-2
@@ -73,13 +74,12 @@ unpack-spec =
     fragment-requires
     element-copy-out-last-block
     last-block-requires
-    element-copy-out-t13
-    element-copy-out-t6
-    element-copy-out-t10
-    element-copy-out-t25
-    element-copy-out-t28
-    element-copy-out-t32
-    element-copy-out-t36
+    element-copy-out-t14
+    element-copy-out-t7
+    element-copy-out-t11
+    element-copy-out-t26
+    element-copy-out-t30
+    element-copy-out-t34
     element-copy-out-number-3
     element-copy-out-number-4
     number-requires-2

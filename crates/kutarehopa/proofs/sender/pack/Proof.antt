@@ -157,7 +157,7 @@ returns : tie.Need-returns
 unfolding senderOctets
 returns c =
     let l = c .before .before .before .before .before .before .before .before .before .before in
-    let w = l .before .before .before in
+    let w = l .before .before .before .before in
     let a = w .before .before .args in
     rw (l .line-octet .ensures) (sets-eq (senderOctets (a .s)) (a .state .now) 0 (omega (arith, w)))
 

@@ -1,8 +1,11 @@
 -- `kutarehopa::sender::unpack`.
-use borrow.Author.Needs.{needs}
 use Rattle.kutarehopa.specs.Layout.{senderIn}
+use borrow.Author.Needs.{needs}
 use Rattle.kutarehopa.proofs.sender.unpack.Statement.{statement}
 use Rattle.kutarehopa.proofs.sender.unpack.Tie as tie
+
+settings-in-requires : tie.Need-settings-in-requires
+settings-in-requires c κs = search needs
 
 element-copy-out-on-line : tie.Need-element-copy-out-on-line
 element-copy-out-on-line c = search needs
@@ -46,34 +49,33 @@ element-copy-out-number-8 c = search needs
 number-requires-4 : tie.Need-number-requires-4
 number-requires-4 c κs = search needs
 
-element-copy-out-t20 : tie.Need-element-copy-out-t20
-element-copy-out-t20 c = search needs
+element-copy-out-t21 : tie.Need-element-copy-out-t21
+element-copy-out-t21 c = search needs
 
-element-copy-out-t7 : tie.Need-element-copy-out-t7
-element-copy-out-t7 c = search needs
+element-copy-out-t8 : tie.Need-element-copy-out-t8
+element-copy-out-t8 c = search needs
 
-element-copy-out-t13 : tie.Need-element-copy-out-t13
-element-copy-out-t13 c = search needs
+element-copy-out-t14 : tie.Need-element-copy-out-t14
+element-copy-out-t14 c = search needs
 
-element-copy-out-t17 : tie.Need-element-copy-out-t17
-element-copy-out-t17 c = search needs
-
-element-copy-out-t41 : tie.Need-element-copy-out-t41
-element-copy-out-t41 c = search needs
+element-copy-out-t18 : tie.Need-element-copy-out-t18
+element-copy-out-t18 c = search needs
 
 returns : tie.Need-returns
 unfolding senderIn
 returns c =
-    let n4 = c .before .before .before .before .before in
+    let n4 = c .before .before .before .before in
     let n3 = n4 .before .before .before in
     let n2 = n3 .before .before .before in
     let n1 = n2 .before .before .before in
-    rw (n4 .number4 .ensures, n3 .number3 .ensures, n2 .number2 .ensures, n1 .number .ensures, n1 .before .before .before .on-line .ensures)
+    let o = n1 .before .before .before in
+    rw (n4 .number4 .ensures, n3 .number3 .ensures, n2 .number2 .ensures, n1 .number .ensures, o .on-line .ensures, o .before .before .settings-in .ensures)
 
 pub unpack-spec : {M : Type 1} → statement M
 unpack-spec =
     tie.close
     (tie.spec
+    settings-in-requires
     element-copy-out-on-line
     on-line-requires
     element-copy-out-number
@@ -88,9 +90,8 @@ unpack-spec =
     element-copy-out-number-7
     element-copy-out-number-8
     number-requires-4
-    element-copy-out-t20
-    element-copy-out-t7
-    element-copy-out-t13
-    element-copy-out-t17
-    element-copy-out-t41
+    element-copy-out-t21
+    element-copy-out-t8
+    element-copy-out-t14
+    element-copy-out-t18
     returns)

@@ -1,6 +1,5 @@
 -- `link::receiver::Receiver::held_ok`.
 use borrow.Author.Needs.{needs}
-use Rattle.link.specs.Agreed.{agreed}
 use Rattle.link.proofs.receiver.Receiver.held_ok.Statement.{statement}
 use Rattle.link.proofs.receiver.Receiver.held_ok.Tie as tie
 
@@ -10,6 +9,9 @@ enum-told c = search needs
 enum-known-held : tie.Need-enum-known-held
 enum-known-held c = search needs
 
+most-decoded-requires : tie.Need-most-decoded-requires
+most-decoded-requires c κs = search needs
+
 cast-result : tie.Need-cast-result
 cast-result c = search needs
 
@@ -17,8 +19,7 @@ returns : tie.Need-returns
 returns c = search needs
 
 returns-2 : tie.Need-returns-2
-unfolding agreed
-returns-2 c = simp (c .before .held .given .1)
+returns-2 c = simp (c .before .before .held .given .1, c .most-decoded .ensures)
 
 pub held-ok-spec : {M : Type 1} → statement M
-held-ok-spec = tie.close (tie.spec enum-told enum-known-held cast-result returns returns-2)
+held-ok-spec = tie.close (tie.spec enum-told enum-known-held cast-result most-decoded-requires returns returns-2)

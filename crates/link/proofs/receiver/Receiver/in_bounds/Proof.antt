@@ -1,44 +1,52 @@
 -- `link::receiver::Receiver::in_bounds`. The counts one by one, then the marks.
 use mathlib.Core.Path.{_≡_, sym, _∙_}
+use Prim.Native.Nat.{_≤_}
 use borrow.Author.Needs.{needs}
 use borrow.Author.Tests.{not-true, not-false, ne-eqb, le-leb, lt-leb}
-use Rattle.link.specs.Agreed.{agreed}
+use Rattle.link.specs.Agreed.{agreed, mostDecoded}
 use Rattle.link.specs.Receiver.{Receiver, inBounds}
 use Rattle.link.proofs.ReceiverCases.{marksOk, counts-ok, refusal-ok, framed-ok, unframed-ok}
 use Rattle.link.proofs.receiver.Receiver.in_bounds.Statement.{statement}
 use Rattle.link.proofs.receiver.Receiver.in_bounds.Tie as tie
 
+most-decoded-requires : tie.Need-most-decoded-requires
+most-decoded-requires c κs = search needs
+
 cast-if1 : tie.Need-cast-if1
 cast-if1 c = search needs
 
+-- the most that may be decoded
 returns : tie.Need-returns
-unfolding agreed inBounds
-returns c = simp (lt-leb _ _ (c .if1 .taken))
+unfolding inBounds
+returns c = simp (lt-leb _ _ (rw (c .before .before .most-decoded .ensures) at (c .if1 .taken)))
+
+few : (c : tie.Else1) → (let r = c .before .before .before .args .self in r .decoded ≤ mostDecoded (agreed (r .settings)))
+few c = rw (c .before .before .most-decoded .ensures) at (c .if1 .left)
 
 held-ok-requires : tie.Need-held-ok-requires
 held-ok-requires c κs = search needs
 
 returns-2 : tie.Need-returns-2
-unfolding agreed inBounds
+unfolding inBounds
 returns-2 c =
     let h = c .before in
-    simp (le-leb _ _ (h .before .if1 .left), sym (h .held-ok .ensures) ∙ not-true (h .held-ok .result) (c .if2 .taken))
+    simp (le-leb _ _ (few (h .before)), sym (h .held-ok .ensures) ∙ not-true (h .held-ok .result) (c .if2 .taken))
 
 returns-3 : tie.Need-returns-3
-unfolding agreed inBounds
+unfolding inBounds
 returns-3 c =
     let t = c .before .before in
     let h = t .before in
-    simp (le-leb _ _ (h .before .if1 .left), sym (h .held-ok .ensures) ∙ not-false (h .held-ok .result) (t .if2 .left), lt-leb _ _ (c .if3 .taken))
+    simp (le-leb _ _ (few (h .before)), sym (h .held-ok .ensures) ∙ not-false (h .held-ok .result) (t .if2 .left), lt-leb _ _ (c .if3 .taken))
 
 returns-4 : tie.Need-returns-4
-unfolding agreed inBounds
+unfolding inBounds
 returns-4 c =
     let s = c .before .before in
     let t = s .before .before in
     let h = t .before in
     simp (
-      le-leb _ _ (h .before .if1 .left),
+      le-leb _ _ (few (h .before)),
       sym (h .held-ok .ensures) ∙ not-false (h .held-ok .result) (t .if2 .left),
       le-leb _ _ (s .if3 .left),
       lt-leb _ _ (c .if4 .taken),
@@ -46,15 +54,14 @@ returns-4 c =
 
 -- behind the four tests only the marks are left
 abbrev self : tie.Else4 → Receiver
-self c = c .before .before .before .before .before .before .before .before .args .self
+self c = c .before .before .before .before .before .before .before .before .before .args .self
 
 marks : (c : tie.Else4) → inBounds (agreed (self c .settings)) (self c) ≡ marksOk (self c)
-unfolding agreed
 marks c =
     let s = c .before .before in
     let t = s .before .before in
     let h = t .before in
-    counts-ok _ _ (h .before .if1 .left) (sym (h .held-ok .ensures) ∙ not-false (h .held-ok .result) (t .if2 .left)) (s .if3 .left) (c .if4 .left)
+    counts-ok _ _ (few (h .before)) (sym (h .held-ok .ensures) ∙ not-false (h .held-ok .result) (t .if2 .left)) (s .if3 .left) (c .if4 .left)
 
 returns-5 : tie.Need-returns-5
 returns-5 c = simp (marks (c .before .before), ne-eqb _ _ (c .before .if5 .taken), lt-leb _ _ (c .if6 .taken))
@@ -89,6 +96,7 @@ pub in-bounds-spec : {M : Type 1} → statement M
 in-bounds-spec =
     tie.close
     (tie.spec
+    most-decoded-requires
     cast-if1
     returns
     held-ok-requires

@@ -21,8 +21,7 @@ step2-begin-block-requires : tie.Need-step2-begin-block-requires
 step2-begin-block-requires c κs = search needs
 
 step3-zeros-requires : tie.Need-step3-zeros-requires
-unfolding agreed
-step3-zeros-requires c κs = search needs
+step3-zeros-requires c κs = rw (c .before .step2-begin-block .ensures) (c .before .before .before .before .before .before .before .before .before .pre)
 
 same-length : tie.Need-same-length
 same-length c = search needs

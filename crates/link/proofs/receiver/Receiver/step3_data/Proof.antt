@@ -4,7 +4,8 @@ use Prim.Native.Nat.{_<_}
 use native.Mathlib.Omega.{arith}
 use borrow.Author.Needs.{needs}
 use lib.ListN.{length, length-set}
-use Rattle.link.specs.Agreed.{agreed}
+use Rattle.link.specs.Agreed.{agreed, mostDecoded}
+use Rattle.link.proofs.Agreed.{decoded-at-most}
 use Rattle.link.proofs.Area.{stored}
 use Rattle.link.proofs.ReceiverCases.{no-room, last-octet, inner-octet}
 use Rattle.link.proofs.receiver.Receiver.step3_data.Statement.{statement}
@@ -13,22 +14,27 @@ use Rattle.link.proofs.receiver.Receiver.step3_data.Tie as tie
 cast-at : tie.Need-cast-at
 cast-at c = search needs
 
+most-decoded-requires : tie.Need-most-decoded-requires
+most-decoded-requires c κs = search needs
+
 step4-remember-requires : tie.Need-step4-remember-requires
 step4-remember-requires c κs = search needs
 
 returns : tie.Need-returns
-unfolding agreed
-returns c = simp (c .step4-remember .ensures) (sym (no-room _ _ _ (c .before .if1 .taken)))
+returns c = simp (c .step4-remember .ensures) (sym (no-room _ _ _ (rw (c .before .before .most-decoded .ensures) at (c .before .if1 .taken))))
+
+-- there is room for the octet
+room : (c : tie.Else1) → (let r = c .before .before .before .before .args .self in r .decoded < mostDecoded (agreed (r .settings)))
+room c = rw (c .before .most-decoded .ensures) at (c .if1 .left)
 
 slice-write-area : tie.Need-slice-write-area
-unfolding agreed
-slice-write-area c = search needs
+slice-write-area c = omega (arith, room c, c .before .before .before .before .pre)
 
 add-next : tie.Need-add-next
 add-next c = search needs
 
 cast-next : tie.Need-cast-next
-cast-next c = search needs
+cast-next c = record { fits = omega (arith, room c, decoded-at-most (c .before .before .before .before .args .self .settings)) }
 
 step3-zeros-requires : tie.Need-step3-zeros-requires
 step3-zeros-requires c κs = search needs
@@ -37,14 +43,14 @@ same-length : tie.Need-same-length
 same-length c = c .before .before .step3-zeros .kept .1 .1 .0 ∙ simp length-set
 
 returns-2 : tie.Need-returns-2
-unfolding agreed
 returns-2 c =
     let d = c .before .before in
     let t = d .before .before in
-    let a = t .before .before .before .before .args in
-    let h : a .self .decoded < length (a .area .now) = omega arith in
+    let s = t .before .before .before .before .before in
+    let a = s .args in
+    let h : a .self .decoded < length (a .area .now) = omega (arith, room (t .before), s .pre) in
     rw (stored (a .area .now) (a .self .decoded) (a .octet) h) at (d .step3-zeros .ensures)
-    ∙ sym (last-octet _ _ _ (t .before .if1 .left) (t .if2 .taken))
+    ∙ sym (last-octet _ _ _ (room (t .before)) (t .if2 .taken))
 
 sub-next : tie.Need-sub-next
 sub-next c = search needs
@@ -53,17 +59,18 @@ same-length-2 : tie.Need-same-length-2
 same-length-2 c = search needs
 
 returns-3 : tie.Need-returns-3
-unfolding agreed
 returns-3 c =
-    let a = c .before .before .before .before .args in
-    let h : a .self .decoded < length (a .area .now) = omega arith in
-    rw (stored (a .area .now) (a .self .decoded) (a .octet) h) (sym (inner-octet _ _ _ (c .before .if1 .left) (c .if2 .left)))
+    let s = c .before .before .before .before .before in
+    let a = s .args in
+    let h : a .self .decoded < length (a .area .now) = omega (arith, room (c .before), s .pre) in
+    rw (stored (a .area .now) (a .self .decoded) (a .octet) h) (sym (inner-octet _ _ _ (room (c .before)) (c .if2 .left)))
 
 pub step3-data-spec : {M : Type 1} → statement M
 step3-data-spec =
     tie.close
     (tie.spec
     cast-at
+    most-decoded-requires
     step4-remember-requires
     returns
     slice-write-area

@@ -5,7 +5,7 @@ use native.Mathlib.Omega.{arith}
 use native.Mathlib.Nat.{sub-zero}
 use borrow.Author.Needs.{needs}
 use borrow.Author.Tests.{lt-ltb, le-ltb, not-true, not-false}
-use Rattle.link.specs.Agreed.{agreed}
+use Rattle.link.specs.Agreed.{agreed, leastFrame}
 use Rattle.link.specs.Receiver.{step5WithoutPhantom}
 use Rattle.link.proofs.receiver.Receiver.step5_without_phantom.Statement.{statement}
 use Rattle.link.proofs.receiver.Receiver.step5_without_phantom.Tie as tie
@@ -13,72 +13,83 @@ use Rattle.link.proofs.receiver.Receiver.step5_without_phantom.Tie as t
 cast-decoded : tie.Need-cast-decoded
 cast-decoded c = search needs
 
+least-frame-requires : tie.Need-least-frame-requires
+least-frame-requires c κs = search needs
+
 step5-end-requires : tie.Need-step5-end-requires
 step5-end-requires c κs = search needs
 
 returns : tie.Need-returns
-unfolding agreed step5WithoutPhantom
+unfolding step5WithoutPhantom
 returns c =
-    let h : c .before .before .before .before .args .self .decoded - 1 < 4 = omega arith in
+    let i = c .before in
+    let r = i .before .before .before .before .args .self in
+    let h : r .decoded - 1 < leastFrame (agreed (r .settings)) = omega (arith, rw (i .before .least-frame .ensures) at (i .if1 .taken)) in
     simp (lt-ltb _ _ h) (c .step5-end .ensures)
+
+-- the octets are enough for a frame
+enough : (c : tie.Else1) → (let r = c .before .before .before .before .args .self in leastFrame (agreed (r .settings)) ≤ r .decoded - 1)
+enough c = omega (arith, rw (c .before .least-frame .ensures) at (c .if1 .left))
 
 sub-n : tie.Need-sub-n
 sub-n c = search needs
 
-sub-good16 : tie.Need-sub-good16
-sub-good16 c = search needs
+sub-good : tie.Need-sub-good
+sub-good c = search needs
 
-part-good16-start : tie.Need-part-good16-start
-part-good16-start c = search needs
+part-good-start : tie.Need-part-good-start
+part-good-start c = search needs
 
-part-good16-end : tie.Need-part-good16-end
-part-good16-end c = search needs
+part-good-end : tie.Need-part-good-end
+part-good-end c = search needs
 
-good16-requires : tie.Need-good16-requires
-good16-requires c κs = search needs
+good-requires : tie.Need-good-requires
+good-requires c κs = search needs
 
 step5-end-requires-2 : tie.Need-step5-end-requires-2
 step5-end-requires-2 c κs = search needs
 
 returns-2 : tie.Need-returns-2
-unfolding agreed step5WithoutPhantom
+unfolding step5WithoutPhantom
 returns-2 c =
     let g = c .before .before in
-    let s = g .before .before .before .before in
-    let h : 4 ≤ s .before .args .self .decoded - 1 = omega arith in
-    simp (le-ltb _ _ h, sym (rw sub-zero at (g .good16 .ensures)) ∙ not-true (g .good16 .result) (c .before .if2 .taken)) (c .step5-end2 .ensures)
+    simp (le-ltb _ _ (enough (g .before .before)), sym (rw sub-zero at (g .good2 .ensures)) ∙ not-true (g .good2 .result) (c .before .if2 .taken)) (c .step5-end2 .ensures)
+
+fcs-length-requires : tie.Need-fcs-length-requires
+fcs-length-requires c κs = search needs
 
 sub-length : tie.Need-sub-length
-sub-length c = search needs
+sub-length c = omega (arith, c .fcs-length .ensures, enough (c .before .before .before .before))
 
 cast-length : tie.Need-cast-length
-cast-length c = search needs
+cast-length c = record { fits = omega (arith, c .fcs-length .ensures) }
 
 step5-end-requires-3 : tie.Need-step5-end-requires-3
 step5-end-requires-3 c κs = search needs
 
 returns-3 : tie.Need-returns-3
-unfolding agreed step5WithoutPhantom
+unfolding step5WithoutPhantom
 returns-3 c =
-    let g = c .before .before in
-    let s = g .before .before .before .before in
-    let h : 4 ≤ s .before .args .self .decoded - 1 = omega arith in
-    simp (le-ltb _ _ h, sym (rw sub-zero at (g .good16 .ensures)) ∙ not-false (g .good16 .result) (c .before .if2 .left)) (c .step5-end3 .ensures)
+    let f = c .before in
+    let g = f .before .before in
+    simp (le-ltb _ _ (enough (g .before .before)), sym (rw sub-zero at (g .good2 .ensures)) ∙ not-false (g .good2 .result) (f .before .if2 .left), ← f .fcs-length .ensures) (c .step5-end3 .ensures)
 
 pub step5-without-phantom-spec : {M : Type 1} → statement M
 step5-without-phantom-spec =
     tie.close
     (tie.spec
     cast-decoded
+    least-frame-requires
     step5-end-requires
     returns
     sub-n
-    sub-good16
-    part-good16-start
-    part-good16-end
-    good16-requires
+    sub-good
+    part-good-start
+    part-good-end
+    good-requires
     step5-end-requires-2
     returns-2
+    fcs-length-requires
     sub-length
     cast-length
     step5-end-requires-3

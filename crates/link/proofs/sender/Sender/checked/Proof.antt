@@ -18,20 +18,22 @@ unfolding next
 returns c =
     let i = c .before in
     let b = i .before in
-    rw (none-short _ _ _ (b .before .before .before .pre), sym (b .in-bounds .ensures), not-true (b .in-bounds .result) (i .if1 .taken), c .next-refused .ensures)
+    let l = b .before .before .before .pre in
+    rw (l .0, none-short _ _ _ (l .1, l .2), sym (b .in-bounds .ensures), not-true (b .in-bounds .result) (i .if1 .taken), c .next-refused .ensures)
 
 steps-1-to-6-requires : tie.Need-steps-1-to-6-requires
 steps-1-to-6-requires c κs =
     let b = c .before in
     let l = b .before .before .before .pre in
-    (sym (b .in-bounds .ensures) ∙ not-false (b .in-bounds .result) (c .if1 .left), l .0, l .1)
+    (sym (b .in-bounds .ensures) ∙ not-false (b .in-bounds .result) (c .if1 .left), l .1, l .2)
 
 returns-2 : tie.Need-returns-2
 unfolding next
 returns-2 c =
     let i = c .before in
     let b = i .before in
-    rw (none-short _ _ _ (b .before .before .before .pre), sym (b .in-bounds .ensures), not-false (b .in-bounds .result) (i .if1 .left)) (c .steps-1-to-6 .ensures)
+    let l = b .before .before .before .pre in
+    rw (l .0, none-short _ _ _ (l .1, l .2), sym (b .in-bounds .ensures), not-false (b .in-bounds .result) (i .if1 .left)) (c .steps-1-to-6 .ensures)
 
 pub checked-spec : {M : Type 1} → statement M
 checked-spec = tie.close (tie.spec in-bounds-requires next-refused-requires returns steps-1-to-6-requires returns-2)

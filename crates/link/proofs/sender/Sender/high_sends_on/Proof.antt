@@ -33,7 +33,7 @@ returns-4 c = λ t.
       dataLeft = d .dataLeft;
       bounds =
           high-due _ (m .if1 .left) (w .if2 .left)
-          (sym (q .lane-in-bounds .ensures _) ∙ not-false (q .lane-in-bounds .result) (i .if3 .left))
+          (sym (q .lane-in-bounds .ensures) ∙ not-false (q .lane-in-bounds .result) (i .if3 .left))
           d;
     }
 

@@ -18,8 +18,7 @@ unfolding inBounds
 returns c =
     let l = c .before .before in
     let b = l .before .before .before .before .before in
-    let s = b .before .before .args .self .settings in
-    rw (l .line-in-bounds .ensures, b .lane-in-bounds2 .ensures s, b .before .lane-in-bounds .ensures s)
+    rw (l .line-in-bounds .ensures, b .lane-in-bounds2 .ensures, b .before .lane-in-bounds .ensures)
 
 pub in-bounds-spec : {M : Type 1} → statement M
 in-bounds-spec = tie.close (tie.spec lane-in-bounds-requires lane-in-bounds-requires-2 line-in-bounds-requires returns)
