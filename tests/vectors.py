@@ -61,6 +61,7 @@ def check_sequence():
     line("good", b"1111", [register(b"1111") == 0xF0B8])
     for place in (0, 1, 15, 20, 102, 128, 153, 161, 169, 229, 237, 255):
         line(f"32 bits, entry {place}", b"", register32(bytes([place]), 0).to_bytes(4, "big"))
+    line("32 bits, complement of the register over", b"123456789", zlib.crc32(b"123456789").to_bytes(4, "big"))
     for packet in (b"123456789", b"\0\0", b"~~", b""):
         frame = packet + fcs(packet, 32)
         line("32 bits, FCS of", packet, fcs(packet, 32))

@@ -56,7 +56,7 @@ fn by_rest(start: u16, octets: &[u8]) -> u16
 }
 
 // The same of any octets, a word at a step.
-pub fn by_words(start: u16, octets: &[u8]) -> u16
+pub(crate) fn by_words(start: u16, octets: &[u8]) -> u16
     ensures { λ r. ⌜ r ≡ feed check16 start (now (octets .entry)) ⌝ }
 {
     let mut r = start as u64;
@@ -70,7 +70,7 @@ pub fn by_words(start: u16, octets: &[u8]) -> u16
 
 // The same of four words or more. Word steps wait for each other, so each word but the last four is folded into the next four instead: it
 // counts as much as itself 64 bits later, 176 (48 bits into a word, so in two words) and 256, together.
-pub fn by_folding(start: u16, octets: &[u8]) -> u16
+pub(crate) fn by_folding(start: u16, octets: &[u8]) -> u16
     requires { ⌜ 32 ≤ length (now octets) ⌝ }
     ensures { λ r. ⌜ r ≡ feed check16 start (now (octets .entry)) ⌝ }
 {

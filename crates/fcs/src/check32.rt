@@ -87,7 +87,7 @@ fn by_rest(start: u32, octets: &[u8]) -> u32
 }
 
 // The same of one word at most.
-pub fn by_word(start: u32, octets: &[u8]) -> u32
+pub(crate) fn by_word(start: u32, octets: &[u8]) -> u32
     requires { ⌜ length (now octets) < 16 ⌝ }
     ensures { λ r. ⌜ r ≡ feed check32 start (now (octets .entry)) ⌝ }
 {
@@ -100,7 +100,7 @@ pub fn by_word(start: u32, octets: &[u8]) -> u32
 
 // The same of two words or more. A word step is dear, and steps wait for each other, so each word but the last two is folded into the next
 // two instead: it counts as much as itself 64 bits later, 80, 87, 105, 111, 112, 119 and 120, together.
-pub fn by_folding(start: u32, octets: &[u8]) -> u32
+pub(crate) fn by_folding(start: u32, octets: &[u8]) -> u32
     requires { ⌜ 16 ≤ length (now octets) ⌝ }
     ensures { λ r. ⌜ r ≡ feed check32 start (now (octets .entry)) ⌝ }
 {

@@ -19,7 +19,7 @@ fn number(a: u8, b: u8, c: u8, d: u8, e: u8, f: u8, g: u8, h: u8) -> u64
 }
 
 // The word at place i.
-pub fn word_at(octets: &[u8], i: usize) -> u64
+pub(crate) fn word_at(octets: &[u8], i: usize) -> u64
     requires { ⌜ i + 8 ≤ length (now octets) ⌝ }
     ensures { λ w. ⌜ lowFirst 8 w ≡ take 8 (drop i (now (octets .entry))) ⌝ }
 {
@@ -36,7 +36,7 @@ pub fn word_at(octets: &[u8], i: usize) -> u64
 }
 
 // A short word: fewer than eight octets as a number, the first lowest.
-pub fn short_word(octets: &[u8]) -> u64
+pub(crate) fn short_word(octets: &[u8]) -> u64
     requires { ⌜ length (now octets) < 8 ⌝ }
     ensures { λ w. ⌜ (w < 2 ^ (8 * length (now (octets .entry)))) × (lowFirst (length (now (octets .entry))) w ≡ now (octets .entry)) ⌝ }
 {

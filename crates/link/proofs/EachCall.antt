@@ -30,6 +30,7 @@ use Rattle.link.proofs.ReadOn.{ready-of}
 use Rattle.link.proofs.Follow.{work-back, aside-back}
 use Rattle.link.proofs.Resumed.{D1-is}
 use Rattle.link.proofs.SenderBounds as sent
+use Rattle.link.proofs.sender.Load.{holds-a-frame}
 
 -- ---- the sender
 
@@ -200,7 +201,7 @@ areas-then-state =
     record {
       loadShort = λ l p s area v k. ap loads (sent.load-short l p s area v (lt-ltb _ _ k));
       loadState = λ l p s area v k b. ap loads (sent.load-out-of-bounds l p s area v (le-ltb _ _ k) b);
-      loadLane = λ l p s area v k b h. ap loads (sent.load-held l p s area v (le-ltb _ _ k) b (lt-ltb _ _ h));
+      loadLane = λ l p s area v k b h. ap loads (holds-a-frame l p s area v k b h);
       nextShort = λ e v k. ap sends (sent.next-short e v (one-short _ _ _ k));
       nextState = λ e v k m b. ap sends (sent.next-out-of-bounds e v (none-short _ _ _ (k, m)) b);
       receiveShort = λ e x v k. ap hears (too-short e x v (one-short _ _ _ k));

@@ -483,12 +483,6 @@ module _ (l : Lane) (p : List ℕ) (s : Sender) (area : List ℕ) where
   unfolding load
   load-out-of-bounds v k b = simp (v, k, b)
 
-  pub load-held : valid (agreed (s .settings)) ≡ true → ltb (length area) (largestFrame (agreed (s .settings))) ≡ false → inBounds (agreed (s .settings)) s ≡ true
-      → loaded (laneState l s) ≡ true
-      → load l p s area ≡ record { answer = refused 4; state = s; area = area }
-  unfolding load
-  load-held v k b h = simp (v, k, b, h)
-
 module _ (e : SenderEnd) where
   abbrev short : Bool
   short = ltb (length (e .low)) (largestFrame (agreed (e .state .settings))) || ltb (length (e .high)) (largestFrame (agreed (e .state .settings)))

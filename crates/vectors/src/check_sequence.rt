@@ -36,9 +36,9 @@ pub(crate) fn run() {
         g\x00\x00\x00\x04\x02\x01good\x00\x00\x01\
         g\x00\x00\x00\x04\x04\x01good1111\x00",
     );
-    // E, F, Q, G: the same of 32 bits. The entries that RFC 1662's table misprints, and four that it has right; the packets of the marked frames,
-    // and the test of RFC 1662's C.3: a packet and its FCS end at DEBB20E3. The numbers are zlib's, which has the same check. That of 31 to 39 is
-    // CB F4 39 26, and is sent low octet first.
+    // E, F, Q, G: the same of 32 bits; N: the complement that is sent, high octet first. The entries that RFC 1662's table misprints, and four that
+    // it has right; the packets of the marked frames, and the test of RFC 1662's C.3: a packet and its FCS end at DEBB20E3. The numbers are
+    // zlib's, which has the same check.
     rows::compare_all(
         b"E\x00\x00\x00\x10\x00\x0432 bits, entry 0\x00\x00\x00\x00\
         E\x01\x00\x00\x10\x00\x0432 bits, entry 1w\x070\x96\
@@ -52,6 +52,7 @@ pub(crate) fn run() {
         E\xe5\x00\x00\x12\x00\x0432 bits, entry 229\xd0`\x16\xf7\
         E\xed\x00\x00\x12\x00\x0432 bits, entry 237\xde\xbb\x9e\xc5\
         E\xff\x00\x00\x12\x00\x0432 bits, entry 255-\x02\xef\x8d\
+        N\x00\x00\x00\x28\x09\x0432 bits, complement of the register over123456789\xcb\xf49&\
         F\x00\x00\x00\x0f\x09\x0432 bits, FCS of123456789&9\xf4\xcb\
         Q\x00\x00\x00\x16\x0d\x0432 bits, register over123456789&9\xf4\xcb\xde\xbb \xe3\
         G\x00\x00\x00\x0d\x0d\x0132 bits, good123456789&9\xf4\xcb\x01\
@@ -85,6 +86,7 @@ pub(crate) fn answer(row: Row, octets: &[u8]) -> Answers {
             let sequence = fcs::fcs32(octets);
             push_all(none(), &sequence)
         }
+        b'N' => high_first32(!fcs::register32(octets)),
         b'Q' => high_first32(fcs::register32(octets)),
         b'G' => push(none(), fcs::good32(octets) as u8),
         b'f' => {

@@ -78,7 +78,7 @@ fn compare(rows: &[u8]) -> usize
 fn answer(row: Row, octets: &[u8]) -> Answers {
     let asked = row.asked;
     match asked {
-        b'e' | b'f' | b'r' | b'g' | b'E' | b'F' | b'Q' | b'G' => check_sequence::answer(
+        b'e' | b'f' | b'r' | b'g' | b'E' | b'F' | b'N' | b'Q' | b'G' => check_sequence::answer(
             row,
             octets,
         ),
