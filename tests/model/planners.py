@@ -8,6 +8,7 @@ For COBS the fewest octets are looked for among all lists of blocks that the cod
 from the end of D to its front; how a sender chooses its blocks is not written here. Octet stuffing is counted by RFC
 1662's rule (sections 4.2 and 7.1). In the table the FCS has 16 bits; `send` is held against the fewest with 16 and with 32.
 """
+import functools
 import hashlib
 import random
 import struct
@@ -96,6 +97,7 @@ def stretches(numbers, size):
     return packet
 
 
+@functools.cache
 def trials(width):
     """The packets of the table; a thousand others; and some whose FCS ends in a zero, which the phantom follows."""
     numbers = random.Random(9)
@@ -124,9 +126,9 @@ def unlike(send, zxe, width, head):
 
 
 def differing(send):
-    """With ZXE and without, and at either width; 16 bits are also what a file without a width has."""
+    """With ZXE and without, and at either width."""
     for zxe in (True, False):
-        for width, said in ((16, b""), (16, b"W\x10"), (32, b"W\x20")):
+        for width, said in ((16, b""), (32, b"W\x20")):
             yield from unlike(send, zxe, width, bytes([zxe]) + said)
 
 
