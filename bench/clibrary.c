@@ -9,7 +9,7 @@
 
 #include "kutarehopa.h"
 
-enum { PIECE = 1 << 16, LONGEST_LINE = 16 + 3 * KUTA_LARGEST_PACKET };
+enum { PIECE = 1 << 16, LONGEST_LINE = 16 + 3 * KUTA_DEFAULT_LIMIT };
 
 static void fail(const char *what) {
     fprintf(stderr, "clibrary: %s\n", what);
@@ -34,7 +34,8 @@ static void put(const char *text, size_t length) {
 
 /* ---- capture */
 
-static uint8_t state[KUTA_STATE], one[KUTA_RECEIVER_AREA], other[KUTA_RECEIVER_AREA];
+enum { AREA = KUTA_RECEIVER_AREA(KUTA_DEFAULT_WIDTH, KUTA_DEFAULT_LIMIT) };
+static uint8_t state[KUTA_STATE], one[AREA], other[AREA];
 
 static void put_packet(const uint8_t *packet, unsigned length) {
     static const char digits[] = "0123456789ABCDEF";
@@ -79,7 +80,7 @@ static void read_stretches(const uint8_t *octets, size_t length) {
 static void capture(void (*take)(const uint8_t *, size_t)) {
     static uint8_t piece[PIECE];
     size_t length;
-    kuta_receiver_open(state, KUTA_ZXE | KUTA_PRE, 16);
+    kuta_receiver_open(state, KUTA_ZXE | KUTA_PRE, KUTA_DEFAULT_WIDTH, KUTA_DEFAULT_LIMIT);
     while ((length = fread(piece, 1, sizeof piece, stdin)) > 0) take(piece, length);
 }
 
@@ -101,11 +102,11 @@ static void send_stretches(void) {
 }
 
 static void send_all(void (*send)(void)) {
-    static uint8_t packet[KUTA_LARGEST_PACKET];
+    static uint8_t packet[KUTA_DEFAULT_LIMIT];
     uint8_t head[5];
     int settings = getchar();
     if (settings == EOF) fail("there is no settings octet");
-    kuta_sender_open(state, (uint8_t)settings, 16);
+    kuta_sender_open(state, (uint8_t)settings, KUTA_DEFAULT_WIDTH, KUTA_DEFAULT_LIMIT);
     while (fread(head, 1, sizeof head, stdin) == sizeof head) {
         const size_t length = head[3] * 256u + head[4];
         if (head[0] != 'L' || head[1] != 0 || head[2] != 0 || length > sizeof packet || fread(packet, 1, length, stdin) != length)

@@ -26,20 +26,21 @@ def calls(n):
     return b"n" + struct.pack("<H", n)
 
 
-def opened(letter, width):
+def opened(letter, width, limit=2048):
     """An end, both settings on, and areas that are long enough for either width."""
-    return b"a" + struct.pack("<4H", 2052, 2052, 2053, 2053) + letter + bytes((3, width))
+    lent = struct.pack("<4H", limit + 4, limit + 4, limit + 5, limit + 5)
+    return b"a" + lent + letter + struct.pack("<BBH", 3, width, limit)
 
 
-def sent(script, width=16):
+def sent(script, width=16, limit=2048):
     """The octets that a fresh sender writes for a script."""
-    lines = model("exercise", opened(b"o", width) + script).decode().split("\n")
+    lines = model("exercise", opened(b"o", width, limit) + script).decode().split("\n")
     return bytes(int(line[2:], 16) for line in lines if line.startswith("O "))
 
 
-def received(octets, width):
+def received(octets, width, limit=2048):
     """The lines of a fresh receiver's reports, as capture has them: without the number of a packet's area."""
-    lines = model("exercise", opened(b"O", width) + b"r" + struct.pack("<H", len(octets)) + octets).decode().split("\n")
+    lines = model("exercise", opened(b"O", width, limit) + b"r" + struct.pack("<H", len(octets)) + octets).decode().split("\n")
     return "\n".join("P" + line[3:] if line.startswith("P ") else line for line in lines).encode()
 
 
@@ -148,7 +149,8 @@ def season():
     yield frame(echo_reply(89))[:-4]             # the capture ends inside a frame
 
 
-# ---- for the sender: a file of packets (docs/SEND.md), and the line that the model makes of the same calls; with 16 bits and with 32
+# ---- for the sender: a file of packets (docs/SEND.md), and the line that the model makes of the same calls; with 16 bits and with 32;
+# and a day's readings in one packet, longer than 2,048 octets, broken off by the alarm, on a link that has agreed on 4,000
 
 BATCH = datagram(921, 9, b"T-13.1 W40 T-13.3 W41 T-13.2 W44")
 ALARM = datagram(922, 911, b"WIND 44")
@@ -159,6 +161,9 @@ def record(lane, wait, packet):
 
 
 RECORDS = record(b"L", 0, BATCH) + record(b"H", 40, ALARM) + record(b"L", 0, echo_reply(91))
+DAY = datagram(923, 9, b" ".join(b"T-13.%d W%d" % (n % 10, 30 + n % 15) for n in range(240)))
+DAY_RECORDS = record(b"L", 0, DAY) + record(b"H", 1000, ALARM)
+DAY_CALLS = load(b"l", DAY) + calls(1000) + load(b"h", ALARM) + calls(9000)
 CALLS = load(b"l", BATCH) + calls(40) + load(b"h", ALARM) + calls(9000) + load(b"l", echo_reply(91)) + calls(5000)
 
 
@@ -170,3 +175,6 @@ put("alarm.records", b"\x03" + RECORDS)
 put("alarm-32.records", b"\x03W\x20" + RECORDS)
 put("alarm-32.line", sent(CALLS, 32))
 assert received(sent(CALLS, 32), 32) == model("capture", sent(CALLS))  # so alarm.lines is for both
+put("day.records", b"\x03M\x0f\xa0" + DAY_RECORDS)
+put("day.line", sent(DAY_CALLS, 16, 4000))
+put("day.reports", received(sent(DAY_CALLS, 16, 4000), 16, 4000))

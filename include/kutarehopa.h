@@ -22,18 +22,23 @@ extern "C" {
 
 /* ---- Lengths, in octets */
 
-#define KUTA_STATE 64            /* a state, of either end */
-#define KUTA_LEAST_PACKET 2      /* the shortest and the longest packet */
-#define KUTA_LARGEST_PACKET 2048
-#define KUTA_SENDER_AREA 2050    /* the least length of the areas low and high, of an end opened with width 16 */
-#define KUTA_RECEIVER_AREA 2051  /* the least length of the areas first and second, likewise */
-#define KUTA_SENDER_AREA_32 2052 /* the same two with width 32; areas of these lengths are long enough for either width */
-#define KUTA_RECEIVER_AREA_32 2053
+#define KUTA_STATE 64           /* a state, of either end */
+#define KUTA_LEAST_PACKET 2     /* the shortest packet; the longest has as many octets as the limit, below */
+#define KUTA_LARGEST_LIMIT 16384
 
-/* ---- What both ends agreed on: settings, of which other bits are ignored, and the width of the check sequence, 16 or 32 bits */
+/* The least lengths of a sender's areas low and high and of a receiver's first and second, for an end opened with this width and limit.
+ * With constants they serve as lengths of arrays. Those of width 32 and of a larger limit are long enough for the others too. */
+#define KUTA_SENDER_AREA(width, limit) ((size_t)(limit) + (size_t)(width) / 8)
+#define KUTA_RECEIVER_AREA(width, limit) (KUTA_SENDER_AREA(width, limit) + 1)
+
+/* ---- What both ends agreed on: settings, of which other bits are ignored; the width of the check sequence, 16 or 32 bits; and the limit,
+ * how many octets a packet has at the most, 2 to KUTA_LARGEST_LIMIT. (PPP's MRU leaves out the protocol number, and is 2 or 4 less.) */
 
 #define KUTA_ZXE 1 /* zero runs and pairs, the codes D3-FE */
 #define KUTA_PRE 2 /* preemption: a low packet may be broken off and resumed */
+
+#define KUTA_DEFAULT_WIDTH 16 /* where nothing else was agreed */
+#define KUTA_DEFAULT_LIMIT 2048
 
 /* ---- Answers
  *
@@ -55,24 +60,26 @@ static inline unsigned kuta_kind(uint32_t answer) { return (unsigned)(answer >> 
 static inline unsigned kuta_mark(uint32_t answer) { return (unsigned)(answer >> 16 & 1); }
 static inline unsigned kuta_value(uint32_t answer) { return (unsigned)(answer & 0xFFFF); }
 
-/* Refusals. 1 to 4 refuse a call, which has then changed no octet of its state and of its areas. The width is tested first, and
- * refused 3; then the rest in the order 2, 3, 4, 1. 5 to 14 are what the receiver reports of a frame that brings no packet; the call itself
- * was taken. */
+/* Refusals. 1 to 4 and 23 refuse a call, which has then changed no octet of its state and of its areas. An opening tests the limit, 23,
+ * and then the width, 3. Any other call tests width and limit first, 3; then the rest in the order 2, 3, 4, 1. 5 to 14 are what the receiver
+ * reports of a frame that brings no packet; the call itself was taken. */
 enum kuta_refusals {
-    KUTA_BAD_LENGTH = 1,      /* load: a packet of fewer than 2 or more than 2,048 octets */
-    KUTA_SHORT_AREA = 2,      /* an area is shorter than its least length, for the state's width */
-    KUTA_BAD_STATE = 3,       /* the width is neither 16 nor 32; the octets are no state (CLIBRARY.md), or one out of bounds (READING.md) */
+    KUTA_BAD_LENGTH = 1,      /* load: a packet of fewer than 2 octets, or more than the limit */
+    KUTA_SHORT_AREA = 2,      /* an area is shorter than its least length, for the state's width and limit */
+    KUTA_BAD_STATE = 3,       /* the width is neither 16 nor 32, or a state's limit out of range; the octets are no state (CLIBRARY.md), or one
+                                 out of bounds (READING.md) */
     KUTA_LANE_LOADED = 4,     /* load: the lane's last packet is not sent yet */
     KUTA_PLAIN_FRAME = 5,     /* it begins FF: plain PPP, a restart of the link */
     KUTA_NOT_AGREED = 6,      /* a code that the settings do not allow */
     KUTA_NO_CODE = 7,         /* an octet that is no code here */
     KUTA_NOTHING_HELD = 8,    /* it resumes a packet, and nothing is held */
     KUTA_NOTHING_RESUMED = 9, /* it resumes a packet and ends at once */
-    KUTA_TOO_LONG = 10,       /* more octets than any frame has */
+    KUTA_TOO_LONG = 10,       /* more octets than the limit allows a frame */
     KUTA_CUT_OFF = 11,        /* it ends inside a block, and preemption is off */
     KUTA_UNFINISHED = 12,     /* it ends behind a block D0, which another must follow */
     KUTA_TOO_SHORT = 13,      /* fewer octets than a packet and its FCS */
-    KUTA_BAD_CHECK = 14       /* the FCS is wrong */
+    KUTA_BAD_CHECK = 14,      /* the FCS is wrong */
+    KUTA_BAD_LIMIT = 23       /* an opening: the limit is not from 2 to KUTA_LARGEST_LIMIT */
 };
 
 /* ---- The receiver
@@ -80,13 +87,13 @@ enum kuta_refusals {
  * It is lent two areas, the same two at every call: one takes in what comes, the other holds what is kept of a packet that was broken off.
  * Between calls nobody else writes to them. */
 
-/* Opens a receiver, whatever the state held before. Answers KUTA_DONE. Refused 3: the width is neither 16 nor 32; the state stays. */
-uint32_t kuta_receiver_open(uint8_t state[KUTA_STATE], uint8_t settings, uint8_t width);
+/* Opens a receiver, whatever the state held before. Answers KUTA_DONE. Refused 23: the limit is out of range. Refused 3: the width is
+ * neither 16 nor 32. Refused, the state stays. (Of larger numbers C hands over the low bits: test them before.) */
+uint32_t kuta_receiver_open(uint8_t state[KUTA_STATE], uint8_t settings, uint8_t width, uint16_t limit);
 
 /* Takes the next octet of the line. Answers KUTA_QUIET, KUTA_PACKET, KUTA_HELD or KUTA_REFUSED.
  * A packet stays where it is until the next call of this receiver.
- * Refused 2: first or second has fewer than KUTA_RECEIVER_AREA octets, or with width 32 KUTA_RECEIVER_AREA_32. Refused 3. Refused 5 to 14:
- * reports of a frame. */
+ * Refused 2: first or second has fewer than KUTA_RECEIVER_AREA(width, limit) octets. Refused 3. Refused 5 to 14: reports of a frame. */
 uint32_t kuta_receive(uint8_t state[KUTA_STATE], uint8_t octet, uint8_t *first, size_t first_length, uint8_t *second, size_t second_length);
 
 /* How far a stretch of a line was read or written. */
@@ -106,17 +113,17 @@ kuta_stretch kuta_read_on(uint8_t state[KUTA_STATE], const uint8_t *octets, size
  * It has two lanes, low and high, and is lent an area for each, the same at every call. A high packet goes before a low one, and breaks it
  * off where preemption was agreed. Between the load of a packet and its closing flag nobody else writes to its area. */
 
-/* Opens a sender, whatever the state held before. Answers KUTA_DONE. Refused 3: the width is neither 16 nor 32; the state stays. */
-uint32_t kuta_sender_open(uint8_t state[KUTA_STATE], uint8_t settings, uint8_t width);
+/* Opens a sender, as a receiver is opened. */
+uint32_t kuta_sender_open(uint8_t state[KUTA_STATE], uint8_t settings, uint8_t width, uint16_t limit);
 
 /* Loads a packet into a lane; `area` is that lane's. Answers KUTA_DONE: the packet is copied to the area, and its octets are free again.
- * Refused 2: the area has fewer than KUTA_SENDER_AREA octets, or with width 32 KUTA_SENDER_AREA_32. Refused 3. Refused 4: the lane's packet
- * is not sent yet, and only a load tells so. Refused 1. */
+ * Refused 2: the area has fewer than KUTA_SENDER_AREA(width, limit) octets. Refused 3. Refused 4: the lane's packet is not sent yet, and only
+ * a load tells so. Refused 1. */
 uint32_t kuta_load_low(uint8_t state[KUTA_STATE], const uint8_t *packet, size_t packet_length, uint8_t *area, size_t area_length);
 uint32_t kuta_load_high(uint8_t state[KUTA_STATE], const uint8_t *packet, size_t packet_length, uint8_t *area, size_t area_length);
 
 /* The next octet to send. Answers KUTA_OCTET, KUTA_IDLE or KUTA_REFUSED, and in the last two cases changes nothing.
- * Refused 2: low or high has fewer than KUTA_SENDER_AREA octets, or with width 32 KUTA_SENDER_AREA_32. Refused 3. */
+ * Refused 2: low or high has fewer than KUTA_SENDER_AREA(width, limit) octets. Refused 3. */
 uint32_t kuta_next(uint8_t state[KUTA_STATE], const uint8_t *low, size_t low_length, const uint8_t *high, size_t high_length);
 
 /* Writes the next octets to `line`, up to and with the first flag (7E), as far as there is room: the same as kuta_next for each of them,

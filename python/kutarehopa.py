@@ -29,10 +29,13 @@ A Receiver is fed a line as it comes, a Sender makes one. Here an urgent packet 
     Packet(octets=b'urgent', place=14)
     Packet(octets=b'123456789', place=25)
 
-Both ends are opened with what the link agreed on: the settings, and the width of the check sequence, 16 bits or 32:
+Both ends are opened with what the link agreed on: the settings; the width of the check sequence, 16 bits or 32; and
+the limit, the most octets of a packet, 2 to 16,384:
 
     >>> print(kuta.line([b"123456789"], width=32).hex(" ").upper())
     0E 31 32 33 34 35 36 37 38 39 26 39 F4 CB 7E
+    >>> list(kuta.reports(kuta.line([b"123456789"]), limit=8))
+    [Refused(number=10, place=12)]
 
 `python3 -m kutarehopa FILE..` prints what the program capture prints. docs/READING.md has the protocol, and says what
 a loss rate may count.
@@ -63,11 +66,12 @@ class _Stretch(ctypes.Structure):
 def _declared(library):
     """The library, its calls with the types of kutarehopa.h."""
     answer, octets, length, octet = ctypes.c_uint32, ctypes.c_void_p, ctypes.c_size_t, ctypes.c_uint8
+    limit = ctypes.c_uint16
     for name, result, *arguments in (
-            ("kuta_receiver_open", answer, octets, octet, octet),
+            ("kuta_receiver_open", answer, octets, octet, octet, limit),
             ("kuta_receive", answer, octets, octet, octets, length, octets, length),
             ("kuta_read_on", _Stretch, octets, octets, length, octets, length, octets, length),
-            ("kuta_sender_open", answer, octets, octet, octet),
+            ("kuta_sender_open", answer, octets, octet, octet, limit),
             ("kuta_load_low", answer, octets, octets, length, octets, length),
             ("kuta_load_high", answer, octets, octets, length, octets, length),
             ("kuta_write_on", _Stretch, octets, octets, length, octets, length, octets, length),
@@ -104,7 +108,7 @@ _library = _load()
 _STATE = 64
 _PACKET, _HELD, _REFUSED = 1, 2, 3  # kinds of answers
 _PIECE = 65536  # how many octets of a capture are read at a time
-_ROOM = 4096    # more than any frame takes on the line, with its flag
+_LIMIT = 2048   # the most octets of a packet, where nothing else is told
 
 
 def _octets(given, what="octets"):
@@ -140,7 +144,7 @@ def _width(given):
 # ---- Reports and refusals
 
 _REASONS = {
-    1: "a packet must have 2 to 2,048 octets",
+    1: "a packet must have 2 to {limit:,} octets",
     2: "an area is too short",
     3: "this is no state that the calls make",
     4: "the lane still has a packet to send",
@@ -216,9 +220,9 @@ class Refused(Report):
 class RefusedCall(Exception):
     """A call was refused, and changed nothing: number, 1 to 4, and reason."""
 
-    def __init__(self, number):
+    def __init__(self, number, limit=_LIMIT):
         super().__init__(number)
-        self.number, self.reason = number, _REASONS[number]
+        self.number, self.reason = number, _REASONS[number].format(limit=limit)
 
     def __str__(self):
         return f"{self.reason} (refusal {self.number})"
@@ -228,25 +232,25 @@ class LaneBusy(RefusedCall):
     """A packet was to be loaded, and the lane's last one is not sent yet."""
 
 
-def _refused(number):
-    return LaneBusy(number) if number == 4 else RefusedCall(number)
+def _refused(number, limit):
+    return LaneBusy(number, limit) if number == 4 else RefusedCall(number, limit)
 
 
 # ---- The two ends
 
 class _End:
     """What both ends are: a state and two areas in memory of their own. Copies, and ends pickled, go their own way."""
-    _area: Dict[int, int]  # how many octets an area has, by the width
+    _beyond: int  # how many octets an area has beyond those of the longest packet and its check sequence
 
-    def _own(self, opening, settings, width):
-        settings, width = _number(settings, 0, 255, "settings"), _width(width)
-        area = self._area[width]
+    def _own(self, opening, settings, width, limit):
+        settings, limit, width = _number(settings, 0, 255, "settings"), _number(limit, 2, 16384, "limit"), _width(width)
+        area = limit + width // 8 + self._beyond
         self._state = (ctypes.c_uint8 * _STATE)()
         self._areas = (ctypes.c_uint8 * area)(), (ctypes.c_uint8 * area)()
         self._lent = self._areas[0], area, self._areas[1], area
         self._place = 0
         self._lock = threading.Lock()  # a call of the library lets other threads run
-        opening(self._state, settings, width)
+        opening(self._state, settings, width, limit)
 
     @property
     def state(self) -> bytes:
@@ -262,6 +266,11 @@ class _End:
         """Of the check sequence, in bits: 16 or 32."""
         return self._state[1]
 
+    @property
+    def limit(self) -> int:
+        """The most octets of a packet."""
+        return int.from_bytes(self._state[2:4], "little")
+
     def save(self) -> bytes:
         """All that the end is, for restore: its state, how many octets of the line it has seen, its areas."""
         with self._lock:
@@ -271,16 +280,21 @@ class _End:
     def restore(cls, saved: bytes):
         """An end as it was when it was saved."""
         saved = _octets(saved, "what was saved")
-        widths = [width for width, area in cls._area.items() if len(saved) == _STATE + 8 + 2 * area]
-        if not widths:
+        if len(saved) < _STATE + 8:
             raise ValueError(f"no {cls.__name__} was saved as {len(saved)} octets")
-        width, = widths
-        end, area = cls(width=width), cls._area[width]
+        width, limit = saved[1], int.from_bytes(saved[2:4], "little")
+        try:
+            end = cls(width=width, limit=limit)
+        except ValueError:
+            raise RefusedCall(3, limit) from None
+        area = len(end._areas[0])
+        if len(saved) != _STATE + 8 + 2 * area:
+            raise ValueError(f"no {cls.__name__} of width {width} and limit {limit} was saved as {len(saved)} octets")
         end._state[:] = saved[:_STATE]
         end._place = int.from_bytes(saved[_STATE:_STATE + 8], "little")
         end._areas[0][:], end._areas[1][:] = saved[-2 * area:-area], saved[-area:]
-        if end.width != width or end._probe() == _REFUSED << 24 | 3:
-            raise RefusedCall(3)
+        if end._probe() == _REFUSED << 24 | 3:
+            raise RefusedCall(3, limit)
         return end
 
     def __reduce__(self):
@@ -288,15 +302,17 @@ class _End:
 
 
 class Receiver(_End):
-    """The receiving end of a line, opened with its settings and the width of its check sequence, 16 or 32."""
+    """The receiving end of a line, opened with its settings, the width of its check sequence, 16 or 32, and its limit,
+    the most octets of a packet, 2 to 16,384."""
 
-    _area = {16: 2051, 32: 2053}
+    _beyond = 1
 
-    def __init__(self, settings: int = ZXE | PRE, width: int = 16):
-        self._own(_library.kuta_receiver_open, settings, width)
+    def __init__(self, settings: int = ZXE | PRE, width: int = 16, limit: int = _LIMIT):
+        self._own(_library.kuta_receiver_open, settings, width, limit)
 
     def __repr__(self):
-        return f"<Receiver, settings {self.settings}, width {self.width}, {self._place} octets read>"
+        return f"<Receiver, settings {self.settings}, width {self.width}, limit {self.limit}, " \
+               f"{self._place} octets read>"
 
     @property
     def place(self) -> int:
@@ -322,7 +338,7 @@ class Receiver(_End):
         if kind == _HELD:
             return Held(value, bool(mark), place)
         if value < 5:
-            raise _refused(value)
+            raise _refused(value, self.limit)
         return Refused(value, place)
 
     def _probe(self):
@@ -331,16 +347,18 @@ class Receiver(_End):
 
 
 class Sender(_End):
-    """The sending end of a line, opened with its settings and the width of its check sequence, 16 or 32. It has two
-    lanes, with room for one packet each; an urgent packet goes first, and with PRE breaks off the other."""
+    """The sending end of a line, opened with its settings, the width of its check sequence, 16 or 32, and its limit,
+    the most octets of a packet, 2 to 16,384. It has two lanes, with room for one packet each; an urgent packet goes
+    first, and with PRE breaks off the other."""
 
-    _area = {16: 2050, 32: 2052}
+    _beyond = 0
 
-    def __init__(self, settings: int = ZXE | PRE, width: int = 16):
-        self._own(_library.kuta_sender_open, settings, width)
+    def __init__(self, settings: int = ZXE | PRE, width: int = 16, limit: int = _LIMIT):
+        self._own(_library.kuta_sender_open, settings, width, limit)
 
     def __repr__(self):
-        return f"<Sender, settings {self.settings}, width {self.width}, {self._place} octets written>"
+        return f"<Sender, settings {self.settings}, width {self.width}, limit {self.limit}, " \
+               f"{self._place} octets written>"
 
     @property
     def place(self) -> int:
@@ -354,17 +372,19 @@ class Sender(_End):
         with self._lock:
             answer = load(self._state, packet, len(packet), self._areas[bool(urgent)], len(self._areas[0]))
         if answer >> 24 == _REFUSED:
-            raise _refused(answer & 0xFFFF)
+            raise _refused(answer & 0xFFFF, self.limit)
 
     def write(self, most: Optional[int] = None) -> bytes:
         """The next octets of the line: up to and with the next flag, and no more than `most`. b"" if all is sent."""
-        room = _ROOM if most is None else min(_ROOM, _number(most, 1, sys.maxsize, "most"))
+        room = 2 * len(self._areas[0])  # more than any frame takes on the line, with its flag
+        if most is not None:
+            room = min(room, _number(most, 1, sys.maxsize, "most"))
         octets = (ctypes.c_uint8 * room)()
         with self._lock:
             stretch = _library.kuta_write_on(self._state, *self._lent, octets, room)
             self._place += stretch.octets
         if stretch.answer >> 24 == _REFUSED:
-            raise _refused(stretch.answer & 0xFFFF)
+            raise _refused(stretch.answer & 0xFFFF, self.limit)
         return ctypes.string_at(octets, stretch.octets)
 
     def rest(self) -> bytes:
@@ -378,11 +398,11 @@ class Sender(_End):
 
 # ---- Whole lines
 
-def line(packets: Iterable[bytes], settings: int = ZXE | PRE, width: int = 16) -> bytes:
+def line(packets: Iterable[bytes], settings: int = ZXE | PRE, width: int = 16, limit: int = _LIMIT) -> bytes:
     """The octets of a line that carries these packets one after the other."""
     if isinstance(packets, (str, bytes, bytearray, memoryview)):
         raise TypeError("line wants packets, not one packet: line([packet])")
-    sender, parts = Sender(settings, width), []
+    sender, parts = Sender(settings, width, limit), []
     for packet in packets:
         sender.load(packet)
         parts.append(sender.rest())
@@ -390,12 +410,12 @@ def line(packets: Iterable[bytes], settings: int = ZXE | PRE, width: int = 16) -
 
 
 def reports(capture: Union[str, os.PathLike, BinaryIO, bytes], settings: int = ZXE | PRE,
-            width: int = 16) -> Iterator[Report]:
+            width: int = 16, limit: int = _LIMIT) -> Iterator[Report]:
     """The reports of a whole capture: of a path (str or Path), a file open for reading octets, or octets.
 
     Files are read in pieces, and reports come as soon as their octets are there. What follows the last flag gives none.
     """
-    receiver = Receiver(settings, width)
+    receiver = Receiver(settings, width, limit)
     if isinstance(capture, (str, os.PathLike)):
         return _of_path(receiver, capture)
     if hasattr(capture, "read"):
@@ -446,7 +466,7 @@ def pppfcs32(octets, start: int = 0xFFFFFFFF) -> int:
 
 # ---- As a program
 
-def _print_all(names, width):
+def _print_all(names, width, limit):
     """The lines of each file, under its name where there are several; whether all could be read."""
     gap, good = "", True
     for name in names:
@@ -457,7 +477,7 @@ def _print_all(names, width):
                 if len(names) > 1:
                     print(f"{gap}==> {shown} <==")
                     gap = "\n"
-                receiver = Receiver(width=width)
+                receiver = Receiver(width=width, limit=limit)
                 piece = first
                 while piece:
                     for report in receiver.feed(piece):
@@ -475,13 +495,20 @@ def _print_all(names, width):
 def _main():
     parser = argparse.ArgumentParser(prog="kutarehopa", description="Reads captures (settings 3) and prints a line for "
                                      "each report: P, a packet; H, a fragment held; R, a refused frame.")
-    parser.add_argument("--width", type=int, choices=(16, 32), default=16, help="bits of the check sequence; 16 if not told")
+    parser.add_argument("--width", type=int, metavar="{16,32}", default=16,
+                        help="bits of the check sequence; 16 if not told")
+    parser.add_argument("--limit", type=int, metavar="N", default=_LIMIT,
+                        help="the most octets of a packet, 2 to 16384; %(default)s if not told")
     parser.add_argument("files", nargs="*", metavar="FILE", default=["-"], help="- or none is standard input")
     given = parser.parse_args()
+    try:
+        Receiver(width=given.width, limit=given.limit)
+    except ValueError as why:
+        parser.error(str(why))
     if sys.stdout is None:
         sys.exit("kutarehopa: standard output: cannot be written: Bad file descriptor")
     try:
-        good = _print_all(given.files, given.width)
+        good = _print_all(given.files, given.width, given.limit)
         sys.stdout.flush()
         return 0 if good else 1
     except BrokenPipeError:

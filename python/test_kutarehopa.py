@@ -31,6 +31,8 @@ NINE = b"123456789"
 NINE_SENT = b"\x0c123456789\x6e\x90\x7e"
 NINE_SENT_32 = b"\x0e123456789\x26\x39\xf4\xcb\x7e"
 WIDTHS = 16, 32
+LIMITS = 2, 3, 2048, 16384
+WRONG_LIMITS = 0, 1, 16385, 65536, -1, 65536 + 2048, -65536 + 2048
 # A packet broken off behind three octets, an urgent one, the rest of the first, and a frame that is too short.
 MARKED = b"\x0c123\x7e" + NINE_SENT + b"\xd1\x09456789\x6e\x90\x7e" + b"\xd3\x7e"
 MARKED_REPORTS = [Held(3, False, 4), Packet(NINE, 17), Packet(NINE, 28), Refused(13, 30)]
@@ -61,6 +63,26 @@ def pieces(octets, rng, longest):
 def random_packet(rng):
     length = rng.choice((2, 3, 30, 31, 207, 208, 2047, 2048, rng.randint(2, 2048)))
     return bytes(rng.choice((0, 0, 0x7E, rng.randrange(256))) for _ in range(length))
+
+
+def longest(limit, octet=b"\x7e"):
+    """A packet as long as the limit."""
+    return octet * limit
+
+
+def as_blocks(packet, width):
+    """The octets of the line for a packet, made here; its frame must have no zero."""
+    check = kuta.pppfcs16(packet) ^ 0xFFFF if width == 16 else kuta.pppfcs32(packet) ^ 0xFFFFFFFF
+    frame = packet + check.to_bytes(width // 8, "little")
+    assert 0 not in frame
+    parts = [frame[at:at + 207] for at in range(0, len(frame) + 1, 207)]
+    return b"".join(bytes((len(part) + 1,)) + part for part in parts).replace(b"\x7e", b"\0") + b"\x7e"
+
+
+def as_zeros(count):
+    """A frame that decodes to so many zeros, the phantom among them."""
+    rest = (b"", b"\x01", b"\xe0", *(bytes((0xD0 + zeros,)) for zeros in range(3, 15)))[count % 15]
+    return b"\xdf" * (count // 15) + rest + b"\x7e"
 
 
 class StoredCaptures(unittest.TestCase):
@@ -396,6 +418,148 @@ class Widths(unittest.TestCase):
                     take(wrong)
 
 
+class Limits(unittest.TestCase):
+    """The most octets of a packet: the least limit and the next, the one that is not told, and the largest."""
+
+    def test_longest(self):
+        """A round trip of the longest packet in one stretch. Without a zero in its frame of n octets it takes n + 1 +
+        n // 207 octets and a flag, and no frame takes more."""
+        for limit, width in itertools.product(LIMITS, WIDTHS):
+            frame = limit + width // 8
+            for packet, settings in itertools.product((longest(limit), bytes(limit), longest(limit, b"\xff")), (0, 3)):
+                sender = Sender(settings, width, limit)
+                sender.load(packet)
+                octets = sender.write()
+                self.assertEqual((octets[-1:], sender.write()), (b"\x7e", b""))
+                self.assertEqual(octets, kuta.line([packet], settings, width, limit))
+                self.assertLessEqual(len(octets), frame + 2 + frame // 207)
+                self.assertEqual(list(kuta.reports(octets, settings, width, limit)), [Packet(packet, len(octets) - 1)])
+            octets = kuta.line([longest(limit)], width=width, limit=limit)
+            self.assertEqual(octets, as_blocks(longest(limit), width))
+            self.assertEqual(len(octets), frame + 2 + frame // 207)
+
+    def test_line_lengths(self):
+        self.assertEqual([len(kuta.line([longest(limit)], 3, width, limit)) for limit in LIMITS for width in WIDTHS],
+                         [6, 8, 7, 9, 2061, 2063, 16467, 16469])
+        self.assertEqual([len(kuta.line([bytes(limit)], 3, 16, limit)) for limit in LIMITS], [5, 5, 141, 1097])
+
+    def test_one_more_octet(self):
+        for limit, width, urgent in itertools.product(LIMITS, WIDTHS, (False, True)):
+            sender = Sender(3, width, limit)
+            for length in (limit + 1, 0, 1, 70000):
+                with self.assertRaises(RefusedCall) as caught:
+                    sender.load(bytes(length), urgent)
+                again = pickle.loads(pickle.dumps(caught.exception))
+                for error in (caught.exception, again, copy.copy(caught.exception)):
+                    self.assertEqual((type(error), error.number), (RefusedCall, 1))
+                    self.assertEqual(error.reason, f"a packet must have 2 to {limit:,} octets")
+                    self.assertEqual(str(error), f"{error.reason} (refusal 1)")
+            self.assertEqual((sender.write(), sender.state), (b"", Sender(3, width, limit).state))
+            with self.assertRaisesRegex(RefusedCall, f" {limit:,} octets"):
+                kuta.line([bytes(2), bytes(limit + 1)], width=width, limit=limit)
+
+    def test_frame_above_the_limit(self):
+        """10, also for a packet of one octet more with a good check sequence. At the limit the check decides."""
+        for limit, width in itertools.product(LIMITS, WIDTHS):
+            above = as_blocks(longest(limit + 1), width)
+            if limit < 16384:
+                self.assertEqual(kuta.line([longest(limit + 1)], width=width, limit=limit + 1), above)
+            most = limit + width // 8 + 1
+            for octets, number in ((above, 10), (as_zeros(most), 14), (as_zeros(most + 1), 10)):
+                found = [Refused(number, len(octets) - 1)]
+                self.assertEqual(Receiver(width=width, limit=limit).feed(octets), found)
+                self.assertEqual(list(kuta.reports(octets, 3, width, limit)), found)
+
+    def test_too_short(self):
+        """13 below 4 octets, or 6, with any limit."""
+        for limit in LIMITS:
+            for width, octets, number in ((16, b"\x04111\x7e", 13), (16, b"\x051111\x7e", 14),
+                                          (32, b"\x0611111\x7e", 13), (32, b"\x07111111\x7e", 14)):
+                self.assertEqual(Receiver(3, width, limit).feed(octets), [Refused(number, len(octets) - 1)])
+
+    def test_broken_off(self):
+        """The longest packet, broken off by another one at its first octets and at its last."""
+        for limit, width in itertools.product(LIMITS, WIDTHS):
+            low, high = longest(limit), longest(limit, b"\x41")
+            whole = len(kuta.line([low], 3, width, limit))
+            for cut in {1, 2, whole - 2}:
+                sender, receiver = Sender(3, width, limit), Receiver(3, width, limit)
+                sender.load(low)
+                octets = sender.write(cut)
+                sender.load(high, urgent=True)
+                written = [octets + sender.write(), sender.write(), sender.write(), sender.write()]
+                self.assertEqual([octets[-1:] for octets in written], [b"\x7e"] * 3 + [b""])
+                first, *others = receiver.feed(b"".join(written))
+                self.assertEqual((type(first), first.replaced), (Held, False))
+                self.assertEqual([report.octets for report in others], [high, low])
+
+    def test_round_trip(self):
+        """Packets of both lanes and of any length up to the limit, at random places of the line."""
+        rng = random.Random(6)
+        for limit, width in itertools.product((2, 3, 9, 300), WIDTHS):
+            sender, receiver, sent, received = Sender(3, width, limit), Receiver(3, width, limit), ([], []), []
+            for _ in range(400):
+                urgent = rng.random() < 0.5
+                length = rng.randint(1, limit - 1)
+                packet = (b"U" if urgent else b"L") + bytes(rng.randrange(256) for _ in range(length))
+                try:
+                    sender.load(packet, urgent)
+                    sent[urgent].append(packet)
+                except LaneBusy:
+                    pass
+                received += receiver.feed(sender.write(rng.choice((None, 1, 2, 60))))
+            received += receiver.feed(sender.rest())
+            self.assertEqual({type(report) for report in received}, {Packet, Held})
+            for urgent, first in ((0, b"L"), (1, b"U")):
+                self.assertGreater(len(sent[urgent]), 15)
+                self.assertEqual([report.octets for report in received
+                                  if isinstance(report, Packet) and report.octets[:1] == first], sent[urgent])
+
+    def test_ends_of_different_limits(self):
+        """A receiver refuses what is longer than its own limit, and takes all else, whatever the sender's is."""
+        packets = [longest(length) for length in (2, 9, 3, 8, 4, 10, 2)]
+        for width, ours in itertools.product(WIDTHS, (10, 2048, 16384)):
+            octets = kuta.line(packets, width=width, limit=ours)
+            self.assertEqual(octets, b"".join(as_blocks(packet, width) for packet in packets))
+            for theirs in (2, 3, 8, 9, 10, 2048, 16384):
+                found = kuta.reports(octets, width=width, limit=theirs)
+                self.assertEqual([report.octets if isinstance(report, Packet) else report.number for report in found],
+                                 [packet if len(packet) <= theirs else 10 for packet in packets])
+
+    def test_fragment_above_the_limit(self):
+        """Broken off before it is too long, a packet is held; its rest is refused, and nothing is held any more."""
+        sender, receiver = Sender(limit=9), Receiver(limit=8)
+        sender.load(NINE)
+        octets = sender.write(4)
+        sender.load(b"urgent", urgent=True)
+        octets += sender.rest()
+        self.assertEqual(receiver.feed(octets), [Held(3, False, 4), Packet(b"urgent", 14), Refused(10, 25)])
+        self.assertEqual(receiver.feed(b"\xd1\x7e"), [Refused(8, 27)])
+
+    def test_the_end_tells_its_limit(self):
+        for end in (Receiver, Sender):
+            self.assertEqual((end().limit, end(0, 32).limit, end(limit=2).limit, end(0, 32, 16384).limit),
+                             (2048, 2048, 2, 16384))
+            for limit, width in itertools.product(LIMITS, WIDTHS):
+                made = end(7, width, limit)
+                self.assertEqual((made.settings, made.width, made.limit, len(made.state)), (7, width, limit, 64))
+                self.assertEqual(made.state[:5], bytes((1, width, limit & 255, limit >> 8, 7)))
+                self.assertIn(f"settings 7, width {width}, limit {limit}, 0 octets", repr(made))
+
+    def test_no_other(self):
+        for take in (lambda limit: Receiver(3, 16, limit), lambda limit: Sender(limit=limit),
+                     lambda limit: kuta.reports(b"", limit=limit), lambda limit: kuta.line([], 3, 32, limit),
+                     lambda limit: Receiver(3, 24, limit), lambda limit: Sender(width=0, limit=limit)):
+            for wrong in WRONG_LIMITS:
+                with self.assertRaisesRegex(ValueError, f"^limit must be from 2 to 16384, not {wrong}$"):
+                    take(wrong)
+            for wrong in ("2048", None, 2048.0, b"\x02"):
+                with self.assertRaises(TypeError):
+                    take(wrong)
+        with self.assertRaisesRegex(ValueError, "^width must be 16 or 32, not 24$"):
+            Receiver(3, 24, 16384)
+
+
 class Saving(unittest.TestCase):
     def test_receiver(self):
         for cut in range(len(MARKED)):
@@ -429,22 +593,69 @@ class Saving(unittest.TestCase):
             self.assertEqual((other.state, other.place, other.width), (receiver.state, cut, 32))
             self.assertEqual(before + other.feed(line[cut:]), found)
 
+    def test_limits(self):
+        """Any width and limit comes back, with areas of its own lengths and what was in them."""
+        for limit, width in itertools.product(LIMITS, WIDTHS):
+            sender, receiver = Sender(1, width, limit), Receiver(2, width, limit)
+            for end, area in ((sender, limit + width // 8), (receiver, limit + width // 8 + 1)):
+                saved = end.save()
+                self.assertEqual(len(saved), 72 + 2 * area)
+                other = type(end).restore(saved)
+                self.assertEqual((other.settings, other.width, other.limit), (end.settings, width, limit))
+                self.assertEqual((other.state, other.save(), repr(other)), (end.state, saved, repr(end)))
+            sender, receiver = Sender(3, width, limit), Receiver(3, width, limit)
+            sender.load(longest(limit))
+            octets = sender.write(limit // 2 + 1)
+            sender.load(longest(limit, b"\x41"), urgent=True)
+            octets += sender.write()
+            receiver.feed(octets)
+            senders = [Sender.restore(sender.save()), copy.copy(sender), pickle.loads(pickle.dumps(sender))]
+            rest = sender.rest()
+            self.assertEqual([other.rest() for other in senders], [rest] * 3)
+            receivers = [Receiver.restore(receiver.save()), copy.copy(receiver), pickle.loads(pickle.dumps(receiver))]
+            found = receiver.feed(rest)
+            self.assertEqual([report.octets for report in found], [longest(limit, b"\x41"), longest(limit)])
+            self.assertEqual([other.feed(rest) for other in receivers], [found] * 3)
+            for other in senders:
+                with self.assertRaisesRegex(RefusedCall, f" {limit:,} octets"):
+                    other.load(bytes(limit + 1))
+
     def test_what_was_not_saved(self):
-        for (end, other), width in itertools.product(((Receiver, Sender), (Sender, Receiver)), WIDTHS):
-            saved = end(width=width).save()
-            self.assertEqual((saved[:64], len(end().state)), (end(width=width).state, 64))
-            for wrong in (b"", saved[:-1], saved[:72], *(other(width=each).save() for each in WIDTHS)):
-                with self.assertRaises(ValueError):
+        for (end, other), width, limit in itertools.product(((Receiver, Sender), (Sender, Receiver)), WIDTHS, LIMITS):
+            saved = end(width=width, limit=limit).save()
+            self.assertEqual((saved[:64], len(end().state)), (end(width=width, limit=limit).state, 64))
+            # Not of the length that the width and the limit in the state ask for: cut, another end's, these two spoilt.
+            wrongs = [b"", b"\x01", bytes(71), saved[:71], saved[:72], saved[:-1], saved[:-2]]
+            wrongs += [saved + b"\0", saved + bytes(2), *(other(width=each, limit=limit).save() for each in WIDTHS)]
+            wrongs += [saved[:1] + bytes((48 - width,)) + saved[2:]]
+            wrongs += [saved[:2] + each.to_bytes(2, "little") + saved[4:] for each in (limit ^ 1, limit ^ 2, 300)
+                       if 2 <= each <= 16384]
+            for wrong in wrongs:
+                with self.assertRaisesRegex(ValueError, f"no {end.__name__} .*was saved as {len(wrong)} octets"):
                     end.restore(wrong)
             at = 5 if end is Sender else 22  # the lane on the line; the last block
             spoilt = [saved[:at] + octet + saved[at + 1:] for octet in (b"\x01", b"\x03")]
-            spoilt += [saved[:1] + bytes((octet,)) + saved[2:] for octet in (0, 24, 48 - width, 255)]  # the width
+            spoilt += [saved[:1] + bytes((octet,)) + saved[2:] for octet in (0, 24, 255)]  # the width
+            spoilt += [saved[:2] + each.to_bytes(2, "little") + saved[4:] for each in (0, 1, 16385, 65535)]  # the limit
             for wrong in (bytes(len(saved)), *spoilt):
                 with self.assertRaises(RefusedCall) as caught:
                     end.restore(wrong)
                 self.assertEqual(caught.exception.number, 3)
             with self.assertRaises(TypeError):
                 end.restore("saved")
+
+    def test_out_of_bounds_at_another_limit(self):
+        """A state that holds more than its limit allows, with areas of the lengths for that limit."""
+        sender, receiver = Sender(limit=9), Receiver(limit=9)
+        sender.load(NINE)
+        receiver.feed(b"\x20" + bytes(12))
+        for end in (sender, receiver):
+            saved, area = end.save(), len(end.save()[72:]) // 2
+            with self.assertRaises(RefusedCall) as caught:
+                type(end).restore(saved[:2] + b"\x08\0" + saved[4:71 + area] + saved[72 + area:-1])
+            self.assertEqual(caught.exception.number, 3)
+            larger = type(end).restore(saved[:2] + b"\x0a\0" + saved[4:72 + area] + b"\0" + saved[72 + area:] + b"\0")
+            self.assertEqual((larger.limit, larger.state[4:]), (10, end.state[4:]))
 
 
 class CheckSequence(unittest.TestCase):
@@ -510,6 +721,22 @@ class Program(unittest.TestCase):
         status, out, error = self.run_with(["-m", "kutarehopa", "--width", "24", line])
         self.assertEqual((status, out), (2, ""))
         self.assertIn("--width", error)
+        self.assertTrue(error.endswith("kutarehopa: error: width must be 16 or 32, not 24\n"), error)
+
+    def test_limit(self):
+        packet = b"7" * 2049
+        octets, said = kuta.line([packet], limit=2049), f"P 2049 {packet.hex(' ')}\n"
+        for arguments, out in (([], "R 10\n"), (["--limit", "2049"], said)):
+            self.assertEqual(self.run_with(["-m", "kutarehopa", *arguments], octets), (0, out, ""))
+        for limit, out in (("9", "P 9 31 32 33 34 35 36 37 38 39\n"), ("8", "R 10\n")):
+            found = self.run_with(["-m", "kutarehopa", "--width", "32", "--limit", limit], NINE_SENT_32)
+            self.assertEqual(found, (0, out, ""))
+        for arguments, said in ((["--limit", "1"], "limit must be from 2 to 16384, not 1\n"),
+                                (["--width", "24", "--limit", "16385"], "limit must be from 2 to 16384, not 16385\n"),
+                                (["--limit", "many"], "argument --limit: invalid int value: 'many'\n")):
+            status, out, error = self.run_with(["-m", "kutarehopa", *arguments, "no such file"])
+            self.assertEqual((status, out), (2, ""))
+            self.assertTrue(error.endswith(f"kutarehopa: error: {said}"), error)
 
     def test_nobody_reads_on(self):
         command = f"'{sys.executable}' -B -m kutarehopa - | head -n 1"

@@ -1,5 +1,5 @@
-/* The C library with bad input: any 64 octets as a state, any width, areas that are too short or not there, packets and stretches of any
- * length.
+/* The C library with bad input: any 64 octets as a state, any width, any limit, areas that are too short or not there, packets and stretches
+ * of any length.
  *
  * Each call is held against the rules below, which are its own, and each stretch against the calls octet by octet. Prints a line for each
  * failure and one at the end. Exit status: 0 where nothing failed, else 1. */
@@ -15,13 +15,13 @@ enum { RECEIVER_OCTETS = 26, SENDER_OCTETS = 38 }; /* how many octets of a state
 
 /* ---- The memory that a call is handed. Around each part lie guard octets, which no call may change. */
 
-enum { GUARD = 64, LINE = 2304 };
+enum { GUARD = 64, MOST = KUTA_LARGEST_LIMIT + 256 }; /* more octets than any area, packet or frame on the line has */
 
 struct memory {
     uint8_t state[GUARD + KUTA_STATE + GUARD];
-    uint8_t one[GUARD + KUTA_RECEIVER_AREA_32 + GUARD];   /* the area low, or first */
-    uint8_t other[GUARD + KUTA_RECEIVER_AREA_32 + GUARD]; /* the area high, or second */
-    uint8_t line[GUARD + LINE + GUARD];                   /* octets of the line, or a packet */
+    uint8_t one[GUARD + MOST + GUARD];   /* the area low, or first */
+    uint8_t other[GUARD + MOST + GUARD]; /* the area high, or second */
+    uint8_t line[GUARD + MOST + GUARD];  /* octets of the line, or a packet */
 };
 
 /* The lengths that go with it. A part of length 0 is handed over as NULL. */
@@ -30,6 +30,19 @@ struct lengths {
 };
 
 static uint8_t *part(uint8_t *guarded, size_t length) { return length == 0 ? NULL : guarded + GUARD; }
+
+/* Only what is handed over, with its guards, is copied and compared. */
+static void copy(struct memory *to, const struct memory *from, struct lengths n) {
+    memcpy(to->state, from->state, sizeof to->state);
+    memcpy(to->one, from->one, GUARD + n.one + GUARD);
+    memcpy(to->other, from->other, GUARD + n.other + GUARD);
+    memcpy(to->line, from->line, GUARD + n.line + GUARD);
+}
+
+static int same(const struct memory *m, const struct memory *as, struct lengths n) {
+    return memcmp(m->state, as->state, sizeof m->state) == 0 && memcmp(m->one, as->one, GUARD + n.one + GUARD) == 0 &&
+           memcmp(m->other, as->other, GUARD + n.other + GUARD) == 0 && memcmp(m->line, as->line, GUARD + n.line + GUARD) == 0;
+}
 
 /* ---- Pseudo-random numbers, the same at each run */
 
@@ -47,7 +60,7 @@ static void draw_octets(uint8_t *octets, size_t count) {
     while (count-- > 0) *octets++ = (uint8_t)(draw() >> 24);
 }
 
-/* ---- Widths: what the width of the check makes of lengths */
+/* ---- Width and limit: what they make of lengths */
 
 enum end { RECEIVER, SENDER };
 
@@ -55,19 +68,39 @@ static const uint8_t widths[] = {16, 32};
 
 static int is_width(unsigned width) { return width == 16 || width == 32; }
 
+static int is_limit(unsigned limit) { return limit >= KUTA_LEAST_PACKET && limit <= KUTA_LARGEST_LIMIT; }
+
 static unsigned fcs_octets(unsigned width) { return width / 8; }
 
-static unsigned longest_frame(unsigned width) { return KUTA_LARGEST_PACKET + fcs_octets(width); }
+static unsigned shortest_frame(unsigned width) { return KUTA_LEAST_PACKET + fcs_octets(width); }
 
-static unsigned most_decoded(unsigned width) { return longest_frame(width) + 1; }
+static unsigned longest_frame(unsigned width, unsigned limit) { return limit + fcs_octets(width); }
 
-static size_t least_area(enum end end, unsigned width) {
-    if (width == 32) return end == RECEIVER ? KUTA_RECEIVER_AREA_32 : KUTA_SENDER_AREA_32;
-    return end == RECEIVER ? KUTA_RECEIVER_AREA : KUTA_SENDER_AREA;
+static unsigned most_decoded(unsigned width, unsigned limit) { return longest_frame(width, limit) + 1; }
+
+static size_t least_area(enum end end, unsigned width, unsigned limit) {
+    return end == RECEIVER ? KUTA_RECEIVER_AREA(width, limit) : KUTA_SENDER_AREA(width, limit);
 }
+
+/* More octets than a frame takes on the line; for a limit that is none, than with the default. */
+static unsigned long_stretch(unsigned limit) { return (is_limit(limit) ? limit : KUTA_DEFAULT_LIMIT) + 256; }
 
 /* Most often one of the two. */
 static uint8_t draw_width(void) { return (uint8_t)(below(16) == 0 ? below(256) : widths[below(2)]); }
+
+/* Those at the ends of the range and around the default, and some that are none. */
+static const uint16_t limits[] = {
+    0, 1, KUTA_LEAST_PACKET, KUTA_LEAST_PACKET + 1, 255, 256, KUTA_DEFAULT_LIMIT - 1, KUTA_DEFAULT_LIMIT, KUTA_DEFAULT_LIMIT + 1,
+    KUTA_LARGEST_LIMIT - 1, KUTA_LARGEST_LIMIT, KUTA_LARGEST_LIMIT + 1, 32768, 32770, 65535};
+
+/* Most often a small one, so that a few octets are too long; the largest seldom, since it takes time. */
+static uint16_t draw_limit(void) {
+    const unsigned drawn = below(128);
+    if (drawn < 2) return (uint16_t)(draw() >> 16);
+    if (drawn < 6) return limits[below(LENGTH(limits))];
+    if (drawn < 7) return KUTA_LARGEST_LIMIT;
+    return (uint16_t)(drawn < 24 ? KUTA_DEFAULT_LIMIT : KUTA_LEAST_PACKET + below(19));
+}
 
 /* RFC 1662's register over octets, bit by bit. */
 static uint32_t register_over(unsigned width, uint32_t start, const uint8_t *octets, size_t count) {
@@ -94,11 +127,15 @@ static void put_number(uint8_t *place, unsigned number) {
     place[1] = (uint8_t)(number >> 8);
 }
 
+static unsigned limit_of(const uint8_t *state) { return number_at(state + 2); }
+
+static int is_valid(const uint8_t *state) { return is_width(state[1]) && is_limit(limit_of(state)); }
+
 static int receiver_spelled(const uint8_t *s) { return s[0] == 1 && s[10] <= 1 && s[13] <= 1 && s[22] <= 2 && s[23] <= 1 && s[24] <= 1; }
 
 static int receiver_in_bounds(const uint8_t *s) {
     const unsigned decoded = number_at(s + 11), left = s[20], zeros = s[21], last = s[22], resumed = s[24], refusal = s[25];
-    const unsigned most = most_decoded(s[1]);
+    const unsigned most = most_decoded(s[1], limit_of(s));
     const int in_frame = s[23] == 1, held = s[13] == 1;
     if (decoded > most || (held && number_at(s + 14) > most) || left > 207 || zeros > 2) return 0;
     if (refusal != 0 && (refusal < KUTA_PLAIN_FRAME || refusal > KUTA_TOO_LONG)) return 0;
@@ -109,8 +146,8 @@ static int receiver_in_bounds(const uint8_t *s) {
 
 static int sender_spelled(const uint8_t *s) { return s[0] == 1 && s[5] <= 2 && s[6] <= 1 && s[7] <= 1; }
 
-static int lane_in_bounds(unsigned width, unsigned length, unsigned position) {
-    const int is_frame = length >= KUTA_LEAST_PACKET + fcs_octets(width) && length <= longest_frame(width);
+static int lane_in_bounds(const uint8_t *s, unsigned length, unsigned position) {
+    const int is_frame = length >= shortest_frame(s[1]) && length <= longest_frame(s[1], limit_of(s));
     return (length == 0 || is_frame) && position <= length + 1;
 }
 
@@ -118,7 +155,7 @@ static int sender_in_bounds(const uint8_t *s) {
     const unsigned low = number_at(s + 8), low_position = number_at(s + 10), high = number_at(s + 12), high_position = number_at(s + 14);
     const unsigned lane = s[5], suspended = s[6], cut_due = s[7], left = s[16], zeros = s[17];
     const unsigned length = lane == 1 ? low : high, position = lane == 1 ? low_position : high_position;
-    if (!lane_in_bounds(s[1], low, low_position) || !lane_in_bounds(s[1], high, high_position)) return 0;
+    if (!lane_in_bounds(s, low, low_position) || !lane_in_bounds(s, high, high_position)) return 0;
     if (left > 207 || zeros > 2 || (left == 0 && zeros > 0)) return 0;
     if (lane == 0 && (left > 0 || cut_due)) return 0;
     if (lane != 0 && (length == 0 || position + left + zeros > length + 1)) return 0;
@@ -126,7 +163,7 @@ static int sender_in_bounds(const uint8_t *s) {
     return !cut_due || (lane == 1 && left == 0);
 }
 
-/* Of octets with a good width. */
+/* Of octets with a valid width and limit. */
 static int stands(enum end end, const uint8_t *state) {
     return end == RECEIVER ? receiver_spelled(state) && receiver_in_bounds(state) : sender_spelled(state) && sender_in_bounds(state);
 }
@@ -200,8 +237,8 @@ static void check(int holds, const char *rule, const char *call, struct lengths 
     putchar('\n');
 }
 
-static int is_short(enum call call, unsigned width, struct lengths n) {
-    const size_t least = least_area(end_of(call), width);
+static int is_short(enum call call, const uint8_t *state, struct lengths n) {
+    const size_t least = least_area(end_of(call), state[1], limit_of(state));
     return (call != LOAD_HIGH && n.one < least) || (call != LOAD_LOW && n.other < least);
 }
 
@@ -209,26 +246,22 @@ static int is_loaded(enum call call, const uint8_t *state) {
     return (call == LOAD_LOW && number_at(state + 8) > 0) || (call == LOAD_HIGH && number_at(state + 12) > 0);
 }
 
-static int is_bad_length(enum call call, size_t packet) {
-    return (call == LOAD_LOW || call == LOAD_HIGH) && (packet < KUTA_LEAST_PACKET || packet > KUTA_LARGEST_PACKET);
-}
+static int is_packet(size_t length, const uint8_t *state) { return length >= KUTA_LEAST_PACKET && length <= limit_of(state); }
 
-/* The number by which the call has to be refused, or 0. The width goes first, since the least lengths follow it. */
+/* The number by which the call has to be refused, or 0. Width and limit go first, since the least lengths follow them. */
 static unsigned due_refusal(enum call call, const uint8_t *state, struct lengths n) {
-    if (!is_width(state[1])) return KUTA_BAD_STATE;
-    if (is_short(call, state[1], n)) return KUTA_SHORT_AREA;
+    if (!is_valid(state)) return KUTA_BAD_STATE;
+    if (is_short(call, state, n)) return KUTA_SHORT_AREA;
     if (!stands(end_of(call), state)) return KUTA_BAD_STATE;
     if (is_loaded(call, state)) return KUTA_LANE_LOADED;
-    return is_bad_length(call, n.line) ? KUTA_BAD_LENGTH : 0;
+    return (call == LOAD_LOW || call == LOAD_HIGH) && !is_packet(n.line, state) ? KUTA_BAD_LENGTH : 0;
 }
-
-static int same(const struct memory *m, const struct memory *as) { return memcmp(m, as, sizeof *m) == 0; }
 
 /* Nothing is changed but what the call may change: listed octets of the state, and what it writes to. */
 static int only_its_own(enum call call, const struct memory *m, struct lengths n, size_t octets) {
     static struct memory expected;
     const size_t frame = n.line + fcs_octets(before.state[GUARD + 1]);
-    expected = before;
+    copy(&expected, &before, n);
     memcpy(expected.state + GUARD, m->state + GUARD, end_of(call) == RECEIVER ? RECEIVER_OCTETS : SENDER_OCTETS);
     if (call == RECEIVE || call == READ_ON) {
         memcpy(expected.one + GUARD, m->one + GUARD, n.one);
@@ -237,7 +270,7 @@ static int only_its_own(enum call call, const struct memory *m, struct lengths n
     if (call == LOAD_LOW) memcpy(expected.one + GUARD, m->one + GUARD, frame);
     if (call == LOAD_HIGH) memcpy(expected.other + GUARD, m->other + GUARD, frame);
     if (call == WRITE_ON) memcpy(expected.line + GUARD, m->line + GUARD, octets);
-    return same(m, &expected);
+    return same(m, &expected, n);
 }
 
 /* The area of a load that was done has the packet and its FCS. */
@@ -261,10 +294,11 @@ static int is_answer_of(enum call call, uint32_t answer) {
 }
 
 /* The area of a packet that was delivered has its FCS behind it. */
-static int is_delivered(unsigned width, const struct memory *m, uint32_t answer) {
+static int is_delivered(const struct memory *m, uint32_t answer) {
+    const uint8_t *const state = before.state + GUARD;
     const size_t length = kuta_value(answer);
-    if (length < KUTA_LEAST_PACKET || length > KUTA_LARGEST_PACKET) return 0;
-    return is_good(width, (kuta_mark(answer) ? m->other : m->one) + GUARD, length + fcs_octets(width));
+    if (!is_packet(length, state)) return 0;
+    return is_good(state[1], (kuta_mark(answer) ? m->other : m->one) + GUARD, length + fcs_octets(state[1]));
 }
 
 /* A call that was not refused. */
@@ -273,12 +307,12 @@ static void check_taken(enum call call, const struct memory *m, struct lengths n
     const unsigned width = before.state[GUARD + 1];
     check(is_answer_of(call, got.answer), "an answer that it has", name, n);
     check(only_its_own(call, m, n, got.octets), "nothing else is changed", name, n);
-    check(m->state[GUARD + 1] == width, "the width stays", name, n);
+    check(memcmp(m->state + GUARD + 1, before.state + GUARD + 1, 4) == 0, "width, limit and settings stay", name, n);
     check(stands(end_of(call), m->state + GUARD), "the state stays in bounds", name, n);
     if (call == LOAD_LOW) check(has_frame(width, m->one + GUARD, m->line + GUARD, n.line), "the frame is loaded", name, n);
     if (call == LOAD_HIGH) check(has_frame(width, m->other + GUARD, m->line + GUARD, n.line), "the frame is loaded", name, n);
-    if (kuta_kind(got.answer) == KUTA_PACKET) check(is_delivered(width, m, got.answer), "a packet and its FCS", name, n);
-    if (kuta_kind(got.answer) == KUTA_IDLE) check(same(m, &before), "Idle changes nothing", name, n);
+    if (kuta_kind(got.answer) == KUTA_PACKET) check(is_delivered(m, got.answer), "a packet and its FCS", name, n);
+    if (kuta_kind(got.answer) == KUTA_IDLE) check(same(m, &before, n), "Idle changes nothing", name, n);
 }
 
 /* Makes a call, and checks it by all the rules. */
@@ -288,24 +322,24 @@ static kuta_stretch try_call(enum call call, struct memory *m, struct lengths n)
     const int is_stretch = call == READ_ON || call == WRITE_ON;
     const unsigned refusal = due_refusal(call, m->state + GUARD, n);
     kuta_stretch got, wanted;
-    before = *m;
+    copy(&before, m, n);
     got = make(call, m, n);
     check(got.octets <= n.line, "no more octets than there are", name, n);
     if (got.octets > n.line) got.octets = 0;
     if (is_stretch && n.line == 0) {
         check(got.answer == KUTA_QUIET && got.octets == 0, "an empty stretch is Quiet", name, n);
-        check(same(m, &before), "an empty stretch changes nothing", name, n);
+        check(same(m, &before, n), "an empty stretch changes nothing", name, n);
     } else if (refusal != 0) {
         check(got.answer == ((uint32_t)KUTA_REFUSED << 24 | refusal), "the refusal that is due", name, n);
-        check(same(m, &before), "a refused call changes nothing", name, n);
+        check(same(m, &before, n), "a refused call changes nothing", name, n);
     } else {
         check_taken(call, m, n, got);
     }
     if (is_stretch) {
-        singly = before;
+        copy(&singly, &before, n);
         wanted = call == READ_ON ? read_singly(&singly, n) : write_singly(&singly, n);
         check(got.answer == wanted.answer && got.octets == wanted.octets, "as octet by octet, the answer", name, n);
-        check(same(m, &singly), "as octet by octet, the memory", name, n);
+        check(same(m, &singly, n), "as octet by octet, the memory", name, n);
     }
     return got;
 }
@@ -317,54 +351,68 @@ static void try_out(enum call call, struct memory *m, size_t one, size_t other, 
     n.other = other;
     n.line = line;
     try_call(call, m, n);
-    *m = before;
+    copy(m, &before, n);
 }
 
-static uint32_t open_end(enum end end, struct memory *m, uint8_t settings, uint8_t width) {
+static uint32_t open_end(enum end end, struct memory *m, uint8_t settings, uint8_t width, uint16_t limit) {
     uint8_t *const state = m->state + GUARD;
-    return end == RECEIVER ? kuta_receiver_open(state, settings, width) : kuta_sender_open(state, settings, width);
+    return end == RECEIVER ? kuta_receiver_open(state, settings, width, limit) : kuta_sender_open(state, settings, width, limit);
 }
 
-/* An opening is done whatever the octets were, and writes what the layout lists. With a width that is neither 16 nor 32 it is refused. */
-static void try_open(enum end end, struct memory *m, uint8_t width) {
+/* An opening is done whatever the octets were, and writes what the layout lists. It is refused for its limit, then for its width. */
+static void try_open(enum end end, struct memory *m, uint8_t width, uint16_t limit) {
     static const struct lengths none = {0, 0, 0};
     static struct memory expected;
     const char *const name = end == RECEIVER ? "receiver_open" : "sender_open";
-    const uint8_t settings = (uint8_t)(draw() >> 24), head[] = {1, width, 0, 8, settings};
+    const uint8_t settings = (uint8_t)(draw() >> 24), head[] = {1, width, (uint8_t)(limit & 255), (uint8_t)(limit >> 8), settings};
+    const unsigned refusal = !is_limit(limit) ? KUTA_BAD_LIMIT : !is_width(width) ? KUTA_BAD_STATE : 0;
     uint32_t answer;
-    before = expected = *m;
-    answer = open_end(end, m, settings, width);
-    if (is_width(width)) {
+    copy(&before, m, none);
+    copy(&expected, m, none);
+    answer = open_end(end, m, settings, width, limit);
+    if (refusal == 0) {
         memset(expected.state + GUARD, 0, end == RECEIVER ? RECEIVER_OCTETS : SENDER_OCTETS);
         memcpy(expected.state + GUARD, head, sizeof head);
-        check(answer == (uint32_t)KUTA_DONE << 24 && same(m, &expected), "a fresh state", name, none);
+        check(answer == (uint32_t)KUTA_DONE << 24, "it is done", name, none);
+        check(same(m, &expected, none), "a fresh state", name, none);
     } else {
-        check(answer == ((uint32_t)KUTA_REFUSED << 24 | KUTA_BAD_STATE) && same(m, &expected), "a wrong width is refused", name, none);
+        check(answer == ((uint32_t)KUTA_REFUSED << 24 | refusal), "the refusal that is due", name, none);
+        check(same(m, &expected, none), "a refused opening changes nothing", name, none);
     }
-    *m = before;
+    copy(m, &before, none);
 }
 
 /* ---- One state: each call with areas that are long enough, one octet too short, as long as the other width wants them, and not there */
 
-static const size_t packet_lengths[] = {0, 1, 2, 2048, 2049};
+/* The least length of its areas. Of a state that is not valid, any. */
+static size_t area_of(enum end end, const uint8_t *state) {
+    return is_valid(state) ? least_area(end, state[1], limit_of(state)) : 4 + below(below(64) == 0 ? KUTA_LARGEST_LIMIT : 24);
+}
+
+/* Packets around the shortest and the longest that it takes, as far as the memory goes. */
+enum { EDGES = 5 };
+
+static size_t packet_at(unsigned edge, const uint8_t *state) {
+    const size_t longest = limit_of(state) < MOST ? limit_of(state) : MOST - 1;
+    return edge <= KUTA_LEAST_PACKET ? edge : longest + (edge - 1 - KUTA_LEAST_PACKET);
+}
 
 static void try_areas(enum end end, struct memory *m, size_t one, size_t other) {
-    size_t i;
+    unsigned edge;
     try_out(end == RECEIVER ? RECEIVE : NEXT, m, one, other, 1);
     try_out(end == RECEIVER ? READ_ON : WRITE_ON, m, one, other, 0);
     try_out(end == RECEIVER ? READ_ON : WRITE_ON, m, one, other, 1 + below(40));
-    for (i = 0; end == SENDER && i < LENGTH(packet_lengths); i++) {
-        try_out(LOAD_LOW, m, one, other, packet_lengths[i]);
-        try_out(LOAD_HIGH, m, one, other, packet_lengths[i]);
+    for (edge = 0; end == SENDER && edge < EDGES; edge++) {
+        try_out(LOAD_LOW, m, one, other, packet_at(edge, m->state + GUARD));
+        try_out(LOAD_HIGH, m, one, other, packet_at(edge, m->state + GUARD));
     }
 }
 
 static void try_state(enum end end, struct memory *m) {
-    const unsigned width = m->state[GUARD + 1];
-    const size_t least = least_area(end, width), of_other = least_area(end, width == 32 ? 16 : 32);
-    try_open(end, m, 16);
-    try_open(end, m, 32);
-    try_open(end, m, draw_width());
+    const size_t least = area_of(end, m->state + GUARD), of_other = m->state[GUARD + 1] == 32 ? least - 2 : least + 2;
+    try_open(end, m, 16, draw_limit());
+    try_open(end, m, 32, draw_limit());
+    try_open(end, m, draw_width(), draw_limit());
     try_areas(end, m, least, least);
     try_areas(end, m, least - 1, least);
     try_areas(end, m, least, least - 1);
@@ -376,14 +424,15 @@ static void try_state(enum end end, struct memory *m) {
 
 /* The same at less cost, for very many states: some lengths, not all. */
 static void try_state_once(enum end end, struct memory *m) {
-    const size_t least = least_area(end, m->state[GUARD + 1]);
-    const size_t one = least - (below(16) == 0), other = least - (below(16) == 0), line = below(64) == 0 ? below(LINE + 1) : below(24);
-    if (below(16) == 0) try_open(end, m, draw_width());
+    const uint8_t *const state = m->state + GUARD;
+    const size_t least = area_of(end, state), one = least - (below(16) == 0), other = least - (below(16) == 0);
+    const size_t line = below(64) == 0 ? below(long_stretch(limit_of(state)) + 1) : below(24);
+    if (below(16) == 0) try_open(end, m, draw_width(), draw_limit());
     if (end == RECEIVER) {
         try_out(RECEIVE, m, one, other, 1);
         try_out(READ_ON, m, one, other, line);
     } else {
-        try_out(below(2) ? LOAD_LOW : LOAD_HIGH, m, one, other, below(16) == 0 ? packet_lengths[below(LENGTH(packet_lengths))] : line);
+        try_out(below(2) ? LOAD_LOW : LOAD_HIGH, m, one, other, below(16) == 0 ? packet_at(below(EDGES), state) : line);
         try_out(NEXT, m, one, other, 1);
         try_out(WRITE_ON, m, one, other, line);
     }
@@ -407,19 +456,38 @@ static void try_plain_states(enum end end, struct memory *m) {
     try_state(end, m);
 }
 
-static void try_widths(enum end end, struct memory *m) {
-    unsigned width;
+/* Each width with some limits, each limit with some widths. */
+static void try_openings(enum end end, struct memory *m) {
+    unsigned width, limit;
+    size_t i;
     draw_octets(m->state + GUARD, KUTA_STATE);
-    for (width = 0; width < 256; width++) try_open(end, m, (uint8_t)width);
+    for (width = 0; width < 256; width++)
+        for (i = 0; i < LENGTH(limits); i++) try_open(end, m, (uint8_t)width, limits[i]);
+    for (limit = 0; limit < 65536; limit++) {
+        try_open(end, m, 16, (uint16_t)limit);
+        try_open(end, m, 32, (uint16_t)limit);
+        try_open(end, m, (uint8_t)below(256), (uint16_t)limit);
+    }
 }
 
-/* Each octet of an opened state, changed to each value. */
-static void try_changed_octets(enum end end, struct memory *m, uint8_t width) {
+/* An opened state with each of the limits in it. */
+static void try_limits(enum end end, struct memory *m, uint8_t width) {
+    size_t i;
+    for (i = 0; i < LENGTH(limits); i++) {
+        draw_octets(m->state + GUARD, KUTA_STATE);
+        open_end(end, m, KUTA_ZXE | KUTA_PRE, width, KUTA_DEFAULT_LIMIT);
+        put_number(m->state + GUARD + 2, limits[i]);
+        try_state(end, m);
+    }
+}
+
+/* Each of the first octets of an opened state, changed to each value. */
+static void try_changed_octets(enum end end, struct memory *m, uint8_t width, uint16_t limit, unsigned octets) {
     unsigned place, value;
-    for (place = 0; place < KUTA_STATE; place++) {
+    for (place = 0; place < octets; place++) {
         for (value = 0; value < 256; value++) {
             draw_octets(m->state + GUARD, KUTA_STATE);
-            open_end(end, m, KUTA_ZXE | KUTA_PRE, width);
+            open_end(end, m, KUTA_ZXE | KUTA_PRE, width, limit);
             m->state[GUARD + place] = (uint8_t)value;
             try_state(end, m);
         }
@@ -437,47 +505,61 @@ static unsigned draw_count(unsigned most) {
     }
 }
 
-static void draw_block(uint8_t *left, uint8_t *zeros) {
-    *left = (uint8_t)(below(2) ? draw_count(207) : 0);
+static void draw_block(uint8_t *left, uint8_t *zeros, unsigned most) {
+    *left = (uint8_t)(below(2) ? draw_count(most < 207 ? most : 207) : 0);
     *zeros = (uint8_t)(*left > 0 || below(8) == 0 ? below(3) : 0);
+}
+
+/* What every state begins with; the rest is anything. */
+static void draw_state(uint8_t *s) {
+    draw_octets(s, KUTA_STATE);
+    s[0] = 1;
+    s[1] = draw_width();
+    put_number(s + 2, draw_limit());
 }
 
 /* A receiver that may well stand; what it does not look at is anything. */
 static void draw_receiver(uint8_t *s) {
     const int in_frame = below(4) > 0;
-    const uint8_t width = draw_width();
-    const unsigned most = most_decoded(is_width(width) ? width : 32);
-    draw_octets(s, KUTA_STATE);
-    s[0] = 1;
-    s[1] = width;
+    unsigned most;
+    draw_state(s);
+    most = is_valid(s) ? most_decoded(s[1], limit_of(s)) : below(16);
     s[10] = (uint8_t)below(2);
     s[13] = (uint8_t)below(2);
     put_number(s + 14, draw_count(most));
     memset(s + 20, 0, 6);
     put_number(s + 11, in_frame ? draw_count(most) : 0);
     if (!in_frame) return;
-    draw_block(s + 20, s + 21);
+    draw_block(s + 20, s + 21, 207);
     s[22] = (uint8_t)below(3);
     s[23] = 1;
     s[24] = (uint8_t)below(2);
     s[25] = (uint8_t)(below(4) == 0 ? 4 + below(8) : 0);
 }
 
+/* The length of a loaded lane. */
+static unsigned draw_length(const uint8_t *s) {
+    const unsigned more = is_valid(s) ? limit_of(s) - KUTA_LEAST_PACKET : below(16);
+    return shortest_frame(s[1]) - (below(16) == 0) + draw_count(more);
+}
+
+/* What of its frame and the phantom is not covered yet. */
+static unsigned rest_of(const uint8_t *lane) {
+    const unsigned length = number_at(lane), position = number_at(lane + 2);
+    return position > length ? 0 : length + 1 - position;
+}
+
 /* A sender that may well stand. */
 static void draw_sender(uint8_t *s) {
-    const uint8_t width = draw_width();
-    const unsigned longest = longest_frame(is_width(width) ? width : 32);
-    draw_octets(s, KUTA_STATE);
-    s[0] = 1;
-    s[1] = width;
+    draw_state(s);
     s[5] = (uint8_t)below(3);
-    put_number(s + 8, below(3) == 0 ? 0 : 4 + draw_count(longest - 4));
+    put_number(s + 8, below(3) == 0 ? 0 : draw_length(s));
     put_number(s + 10, below(4) == 0 ? number_at(s + 8) + 1 : draw_count(number_at(s + 8) + 1));
-    put_number(s + 12, below(2) ? 0 : 4 + draw_count(longest - 4));
+    put_number(s + 12, below(2) ? 0 : draw_length(s));
     put_number(s + 14, below(4) == 0 ? number_at(s + 12) + 1 : draw_count(number_at(s + 12) + 1));
     s[6] = (uint8_t)(s[5] != 1 && below(2));
     s[16] = s[17] = 0;
-    if (s[5] != 0) draw_block(s + 16, s + 17);
+    if (s[5] != 0) draw_block(s + 16, s + 17, rest_of(s[5] == 1 ? s + 8 : s + 12));
     s[7] = (uint8_t)(s[5] == 1 && s[16] == 0 && below(2));
 }
 
@@ -485,15 +567,12 @@ static void try_drawn_states(enum end end, struct memory *m, unsigned long count
     uint8_t *const state = m->state + GUARD;
     unsigned long i;
     for (i = 0; i < count; i++) {
-        if (i % 64 == 0) draw_line(m, LINE);
+        if (i % 64 == 0) draw_line(m, long_stretch(KUTA_DEFAULT_LIMIT));
         else draw_line(m, 24);
-        if (i % 4 == 0) draw_octets(state, KUTA_STATE);
+        if (i % 8 == 0) draw_state(state);
+        else if (i % 8 == 4) draw_octets(state, KUTA_STATE);
         else if (end == RECEIVER) draw_receiver(state);
         else draw_sender(state);
-        if (i % 8 == 0) {
-            state[0] = 1;
-            state[1] = draw_width();
-        }
         if (i % 8 == 1) state[below(KUTA_STATE)] = (uint8_t)below(256);
         try_state_once(end, m);
     }
@@ -502,20 +581,21 @@ static void try_drawn_states(enum end end, struct memory *m, unsigned long count
 /* ---- Both ends joined, so that packets are delivered too: in stretches of any length, each checked as above */
 
 static struct memory sending, receiving;
-static uint8_t sent[2][KUTA_LARGEST_PACKET]; /* of each lane, the packet on its way */
+static uint8_t sent[2][KUTA_LARGEST_LIMIT]; /* of each lane, the packet on its way */
 static size_t sent_length[2];
 static unsigned long loaded, delivered;
 
-/* The areas are just as long as the end's width asks for. */
+/* The areas are just as long as the end's width and limit ask for. */
 static struct lengths lent(enum end end, const struct memory *m, size_t line) {
     struct lengths n;
-    n.one = n.other = least_area(end, m->state[GUARD + 1]);
+    n.one = n.other = area_of(end, m->state + GUARD);
     n.line = line;
     return n;
 }
 
-static void load_a_packet(unsigned lane) {
-    const size_t lengths[] = {2, 3, 2 + below(300), 2 + below(2047), 2048};
+/* Some of them are too long, and refused. */
+static void load_a_packet(unsigned lane, unsigned limit) {
+    const size_t lengths[] = {2, 3, 2 + below(300), 2 + below(limit - 1), limit, limit + 1};
     const struct lengths n = lent(SENDER, &sending, lengths[below(LENGTH(lengths))]);
     draw_line(&sending, n.line);
     if (try_call(lane == 0 ? LOAD_LOW : LOAD_HIGH, &sending, n).answer != (uint32_t)KUTA_DONE << 24) return;
@@ -550,23 +630,31 @@ static unsigned read_all(const uint8_t *octets, size_t count) {
 enum { STEPS_TO_EMPTY = 200 }; /* for what is loaded at last; much more than two packets need */
 
 /* Damage: one of so many stretches has an octet changed; 0 none. */
-static void run_session(uint8_t settings, uint8_t width, unsigned steps, unsigned damage) {
+static void run_session(uint8_t settings, uint8_t width, uint16_t limit, unsigned steps, unsigned damage) {
     static const struct lengths none = {0, 0, 0};
-    uint8_t octets[LINE];
+    uint8_t octets[MOST];
     unsigned step;
     loaded = delivered = 0;
-    open_end(SENDER, &sending, settings, width);
-    open_end(RECEIVER, &receiving, settings, width);
+    open_end(SENDER, &sending, settings, width, limit);
+    open_end(RECEIVER, &receiving, settings, width, limit);
     for (step = 0; step < steps + STEPS_TO_EMPTY; step++) {
         kuta_stretch stretch;
-        if (step < steps && below(2)) load_a_packet(0);
-        if (step < steps && below(3) == 0) load_a_packet(1);
-        stretch = try_call(WRITE_ON, &sending, lent(SENDER, &sending, below(4) == 0 ? below(LINE + 1) : below(200)));
+        if (step < steps && below(2)) load_a_packet(0, limit);
+        if (step < steps && below(3) == 0) load_a_packet(1, limit);
+        stretch = try_call(WRITE_ON, &sending, lent(SENDER, &sending, below(4) == 0 ? below(long_stretch(limit) + 1) : below(4 + limit / 10)));
         memcpy(octets, sending.line + GUARD, stretch.octets);
         if (damage > 0 && stretch.octets > 0 && below(damage) == 0) octets[below((unsigned)stretch.octets)] = (uint8_t)below(256);
         delivered += read_all(octets, stretch.octets);
     }
     if (damage == 0) check(delivered == loaded && loaded > 0, "all that was loaded is delivered", "both ends", none);
+}
+
+static void run_sessions(uint8_t width, uint16_t limit, unsigned steps) {
+    uint8_t settings;
+    for (settings = 0; settings < 4; settings++) {
+        run_session(settings, width, limit, steps, 0);
+        run_session(settings, width, limit, steps, 4);
+    }
 }
 
 /* ---- pppfcs16 and pppfcs32 */
@@ -580,38 +668,42 @@ static void try_check_sequences(struct memory *m) {
         check(pppfcs16((uint16_t)i, NULL, 0) == i, "no octets, no change", "pppfcs16", n);
         check(pppfcs32(start, NULL, 0) == start, "no octets, no change", "pppfcs32", n);
     }
-    draw_octets(m->line + GUARD, LINE);
-    before = *m;
-    for (i = 0; i <= LINE; i++) {
+    draw_octets(m->line + GUARD, MOST);
+    n.line = MOST;
+    copy(&before, m, n);
+    for (i = 0; i <= MOST; i += 1 + i / 256) {
         const uint32_t start = draw();
         n.line = i;
         check(pppfcs16((uint16_t)start, octets, i) == register_over(16, start & 0xFFFF, octets, i), "as bit by bit", "pppfcs16", n);
         check(pppfcs32(start, octets, i) == register_over(32, start, octets, i), "as bit by bit", "pppfcs32", n);
     }
-    check(same(m, &before), "nothing is changed", "pppfcs16, pppfcs32", n);
+    n.line = MOST;
+    check(same(m, &before, n), "nothing is changed", "pppfcs16, pppfcs32", n);
 }
 
 static void try_end(enum end end, struct memory *m) {
+    size_t i;
     try_plain_states(end, m);
-    try_widths(end, m);
-    try_changed_octets(end, m, 16);
-    try_changed_octets(end, m, 32);
+    try_openings(end, m);
+    for (i = 0; i < LENGTH(widths); i++) {
+        try_limits(end, m, widths[i]);
+        try_changed_octets(end, m, widths[i], KUTA_LEAST_PACKET, KUTA_STATE);
+        try_changed_octets(end, m, widths[i], KUTA_DEFAULT_LIMIT, SENDER_OCTETS);
+    }
     try_drawn_states(end, m, 300000);
 }
 
 int main(void) {
     static struct memory memory;
-    uint8_t settings;
     size_t i;
     draw_octets((uint8_t *)&memory, sizeof memory);
     try_end(RECEIVER, &memory);
     try_end(SENDER, &memory);
     try_check_sequences(&memory);
-    for (settings = 0; settings < 4; settings++) {
-        for (i = 0; i < LENGTH(widths); i++) {
-            run_session(settings, widths[i], 5000, 0);
-            run_session(settings, widths[i], 5000, 4);
-        }
+    for (i = 0; i < LENGTH(widths); i++) {
+        run_sessions(widths[i], KUTA_LEAST_PACKET, 5000);
+        run_sessions(widths[i], KUTA_DEFAULT_LIMIT, 5000);
+        run_sessions(widths[i], KUTA_LARGEST_LIMIT, 200);
     }
     printf("bad input: %lu passed, %lu failed\n", passed, failed);
     return failed == 0 && fclose(stdout) == 0 ? 0 : 1;

@@ -21,11 +21,11 @@ struct area {
 static uint8_t sender[KUTA_STATE], receiver[KUTA_STATE];
 static uint8_t low[END_AREA], high[END_AREA], first[END_AREA], second[END_AREA], out[OUT_AREA];
 static struct area areas[] = {
-    {low, END_AREA, KUTA_SENDER_AREA},
-    {high, END_AREA, KUTA_SENDER_AREA},
-    {first, END_AREA, KUTA_RECEIVER_AREA},
-    {second, END_AREA, KUTA_RECEIVER_AREA},
-    {out, OUT_AREA, KUTA_RECEIVER_AREA},
+    {low, END_AREA, KUTA_SENDER_AREA(KUTA_DEFAULT_WIDTH, KUTA_DEFAULT_LIMIT)},
+    {high, END_AREA, KUTA_SENDER_AREA(KUTA_DEFAULT_WIDTH, KUTA_DEFAULT_LIMIT)},
+    {first, END_AREA, KUTA_RECEIVER_AREA(KUTA_DEFAULT_WIDTH, KUTA_DEFAULT_LIMIT)},
+    {second, END_AREA, KUTA_RECEIVER_AREA(KUTA_DEFAULT_WIDTH, KUTA_DEFAULT_LIMIT)},
+    {out, OUT_AREA, KUTA_RECEIVER_AREA(KUTA_DEFAULT_WIDTH, KUTA_DEFAULT_LIMIT)},
 };
 
 static size_t least(size_t one, size_t other) { return one < other ? one : other; }
@@ -97,6 +97,7 @@ static const struct field sender_fields[] = {
     {6, 1, 2},      /* suspended */
     {7, 1, 2},      /* cut due */
     {1, 1, 256},    /* width */
+    {2, 2, 65536},  /* limit */
 };
 
 static const struct field receiver_fields[] = {
@@ -111,6 +112,7 @@ static const struct field receiver_fields[] = {
     {24, 1, 2},               /* resumed */
     {25, 1, 256},             /* remembered refusal */
     {1, 1, 256},              /* width */
+    {2, 2, 65536},            /* limit */
 };
 
 static void put_number(uint8_t *place, unsigned long number) {
@@ -140,12 +142,11 @@ static unsigned long field_of(const uint8_t *state, struct field field) {
     return *place == 0 ? 0 : number_at(place + 1) + 1;
 }
 
-/* What has no number here is written as an opening writes it: octet 0 and the limit, and zeros. */
+/* What has no number here is written as an opening writes it: octet 0, and zeros. */
 static void hand_in(uint8_t *state, const struct field *fields, size_t count, const unsigned *numbers) {
     size_t i;
     memset(state, 0, KUTA_STATE);
     state[0] = 1;
-    put_number(state + 2, KUTA_LARGEST_PACKET);
     for (i = 0; i < count; i++) put_field(state, fields[i], numbers[i]);
 }
 
@@ -166,11 +167,11 @@ struct operands {
 };
 
 static void open_sender(const struct operands *given) {
-    print_opening(kuta_sender_open(sender, (uint8_t)given->numbers[0], (uint8_t)given->numbers[1]));
+    print_opening(kuta_sender_open(sender, (uint8_t)given->numbers[0], (uint8_t)given->numbers[1], (uint16_t)given->numbers[2]));
 }
 
 static void open_receiver(const struct operands *given) {
-    print_opening(kuta_receiver_open(receiver, (uint8_t)given->numbers[0], (uint8_t)given->numbers[1]));
+    print_opening(kuta_receiver_open(receiver, (uint8_t)given->numbers[0], (uint8_t)given->numbers[1], (uint16_t)given->numbers[2]));
 }
 
 static void load_low(const struct operands *given) {
@@ -232,8 +233,8 @@ struct command {
 };
 
 static const struct command commands[] = {
-    {'o', "11", open_sender},
-    {'O', "11", open_receiver},
+    {'o', "112", open_sender},
+    {'O', "112", open_receiver},
     {'l', "n", load_low},
     {'h', "n", load_high},
     {'n', "2", next_octets},
@@ -241,8 +242,8 @@ static const struct command commands[] = {
     {'a', "2222", lend},
     {'A', "2", lend_out},
     {'f', "12n", fill},
-    {'s', "22222222222", hand_sender},
-    {'t', "22222222222", hand_receiver},
+    {'s', "222222222222", hand_sender},
+    {'t', "222222222222", hand_receiver},
     {'d', "", show_states},
     {'x', "122", show},
 };
@@ -311,8 +312,8 @@ int main(void) {
     int status = 0;
     setvbuf(stdin, input, _IOFBF, sizeof input);
     setvbuf(stdout, output, _IOFBF, sizeof output);
-    kuta_sender_open(sender, 0, 16);
-    kuta_receiver_open(receiver, 0, 16);
+    kuta_sender_open(sender, 0, KUTA_DEFAULT_WIDTH, KUTA_DEFAULT_LIMIT);
+    kuta_receiver_open(receiver, 0, KUTA_DEFAULT_WIDTH, KUTA_DEFAULT_LIMIT);
     while (carry_out_next() && !ferror(stdout)) {
     }
     if (ferror(stdin)) status = fault("standard input: cannot be read");

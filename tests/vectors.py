@@ -139,16 +139,21 @@ def code_blocks():
 # ---- the two ends
 
 
-def sent(packet, settings, loads=1, width=16):
+def unopened(width, limit):
+    """Why no end is opened with these, or nothing."""
+    return b"R\x17" if not 2 <= limit <= 16384 else b"R\3" if width not in (16, 32) else b""
+
+
+def sent(packet, settings, loads=1, width=16, limit=2048):
     """A fresh sender, loaded so often, until it is idle; nothing interrupts it."""
-    if width not in (16, 32):
-        return b"R\3"
+    if unopened(width, limit):
+        return unopened(width, limit)
     answers = b""
     held = None
     for _ in range(loads):
         if held is not None:
             answers += b"R\4"
-        elif not 2 <= len(packet) <= 2048:
+        elif not 2 <= len(packet) <= limit:
             answers += b"R\1"
         else:
             held = packet
@@ -164,13 +169,13 @@ def sent(packet, settings, loads=1, width=16):
     return answers + b"\x7e"
 
 
-def reported(line_octets, settings, area=None, left=0, width=16):
-    """A fresh receiver over the octets, frame by frame; the frame's octets are decoded as a whole."""
-    if width not in (16, 32):
-        return b"R\3"
+def reported(line_octets, settings, short=0, left=0, width=16, limit=2048):
+    """A fresh receiver over the octets, frame by frame; the frame's octets are decoded as a whole. short: of the second area."""
+    if unopened(width, limit):
+        return unopened(width, limit)
     tail = width // 8
-    most = 2048 + tail + 1
-    if area is not None and area < most:
+    most = limit + tail + 1
+    if short:
         return b"R\2" * len(line_octets)
     if left > 207:
         return b"R\3" * len(line_octets)
@@ -246,7 +251,7 @@ def two_ends():
         once = bytes.fromhex(octets)
         repeated = once[:octet] + once[octet : octet + 1] * times + once[octet + 1 :]
         line(f"{once[octet]:02X} {times} times, reported of", once, reported(repeated, 3))
-    line("second area of 2050 octets, reported of", b"\x7e", reported(b"\x7e", 3, area=2050))
+    line("second area one short, reported of", b"\x7e", reported(b"\x7e", 3, short=1))
     line("208 data octets left, reported of", b"\x7e", reported(b"\x7e", 3, left=208))
     for packet, settings, words in (
         (b"123456789", 3, ""),
@@ -261,9 +266,21 @@ def two_ends():
         line("32 bits, reported of", octets, reported(octets, 3, width=32))
     for octets in map(bytes.fromhex, ("DF DD 7E", "DF DE 7E")):
         line("32 bits, DF 136 times, reported of", octets, reported(octets[:1] * 135 + octets, 3, width=32))
-    line("32 bits, second area of 2052 octets, reported of", b"\x7e", reported(b"\x7e", 3, area=2052, width=32))
+    line("32 bits, second area one short, reported of", b"\x7e", reported(b"\x7e", 3, short=1, width=32))
     line("24 bits, sent of", b"1", sent(b"1", 3, width=24))
     line("24 bits, reported of", b"\x7e", reported(b"\x7e", 3, width=24))
+    for packet in (b"AB", b"123", b"1"):
+        line("limit 2, sent of", packet, sent(packet, 3, limit=2))
+    for octets in map(bytes.fromhex, ("05 41 42 EF 31 7E", "06 31 32 33 B4 9C 7E", "D5 7E", "D6 7E")):
+        line("limit 2, reported of", octets, reported(octets, 3, limit=2))
+    line("limit 2, second area one short, reported of", b"\x7e", reported(b"\x7e", 3, short=1, limit=2))
+    line("32 bits, limit 16,384, sent of", b"123456789", sent(b"123456789", 3, width=32, limit=16384))
+    octets = bytes.fromhex(frames[0])
+    line("32 bits, limit 16,384, reported of", octets, reported(octets, 3, width=32, limit=16384))
+    line("32 bits, limit 16,384, second area one short, reported of", b"\x7e", reported(b"\x7e", 3, short=1, width=32, limit=16384))
+    for width, limit, words in ((24, 1, "24 bits, limit 1"), (16, 16385, "limit 16,385")):
+        line(f"{words}, sent of", b"1", sent(b"1", 3, width=width, limit=limit))
+        line(f"{words}, reported of", b"\x7e", reported(b"\x7e", 3, width=width, limit=limit))
 
 
 check_sequence()

@@ -4,8 +4,9 @@
  *     cc -o lossy lossy.c -lkutarehopa && ./lossy 10
  *
  * RATE, here 10, is how many of 10,000 octets the line damages; the same rate gives the same tally everywhere. `./lossy 10 32` is the same
- * with a check sequence of 32 bits in place of 16. Exit status: 0; 1 where a line without damage did not deliver everything, or the tally
- * cannot be written; 2 where the command is called wrongly. */
+ * with a check sequence of 32 bits in place of 16, `./lossy 10 32 16384` also with a limit of 16,384 octets in place of 2,048, which the long
+ * packets have. Exit status: 0; 1 where a line without damage did not deliver everything, or the tally cannot be written; 2 where the command
+ * is called wrongly. */
 #include <stdio.h>
 #include <stdlib.h>
 
@@ -17,13 +18,14 @@ enum { WHOLE = 10000 };   /* what a rate is a part of */
 enum { STRETCH = 64 };    /* octets written before the sender looks for an urgent packet again */
 enum { URGENT_EACH = 5 }; /* an urgent packet comes with every fifth stretch */
 
-static const size_t packet_length[LANES] = {KUTA_LARGEST_PACKET, 24};
+static size_t packet_length[LANES] = {KUTA_DEFAULT_LIMIT, 24}; /* the first is the limit */
 static const unsigned packets_to_send[LANES] = {40, 200};
 static const char *const lane_name[LANES] = {"low", "high"};
 
-/* The two ends. Each has its state and its areas, long enough for either width, and sees nothing of the other but the line. */
-static uint8_t sender[KUTA_STATE], low[KUTA_SENDER_AREA_32], high[KUTA_SENDER_AREA_32];
-static uint8_t receiver[KUTA_STATE], first[KUTA_RECEIVER_AREA_32], second[KUTA_RECEIVER_AREA_32];
+/* The two ends. Each has its state and its areas, long enough for either width and any limit, and sees nothing of the other but the line. */
+enum { SENDER_AREA = KUTA_SENDER_AREA(32, KUTA_LARGEST_LIMIT), RECEIVER_AREA = KUTA_RECEIVER_AREA(32, KUTA_LARGEST_LIMIT) };
+static uint8_t sender[KUTA_STATE], low[SENDER_AREA], high[SENDER_AREA];
+static uint8_t receiver[KUTA_STATE], first[RECEIVER_AREA], second[RECEIVER_AREA];
 
 static struct {
     unsigned loaded[LANES], unaltered[LANES];
@@ -61,7 +63,7 @@ static void make_packet(unsigned lane, unsigned number, uint8_t *packet) {
 }
 
 static int is_sent(const uint8_t *packet, size_t length) {
-    static uint8_t sent[KUTA_LARGEST_PACKET];
+    static uint8_t sent[KUTA_LARGEST_LIMIT];
     const unsigned lane = packet[0], number = packet[1];
     size_t i = 0;
     if (lane >= LANES || number >= tally.loaded[lane] || length != packet_length[lane]) return 0;
@@ -74,7 +76,7 @@ static int is_sent(const uint8_t *packet, size_t length) {
 
 /* Loads the next packet of a lane, if that has one left. A lane takes one packet at a time: KUTA_LANE_LOADED says try again later. */
 static void load_next(unsigned lane) {
-    static uint8_t packet[KUTA_LARGEST_PACKET];
+    static uint8_t packet[KUTA_LARGEST_LIMIT];
     uint32_t answer;
     if (tally.loaded[lane] == packets_to_send[lane]) return;
     make_packet(lane, tally.loaded[lane], packet);
@@ -189,19 +191,22 @@ static long number_of(const char *text, long most) {
     return *text < '0' || *text > '9' || *end != '\0' || number > most ? -1 : number;
 }
 
-/* Whether both ends take the width; each answers for itself. */
-static int open_both(uint8_t width) {
-    return kuta_kind(kuta_sender_open(sender, SETTINGS, width)) == KUTA_DONE &&
-           kuta_kind(kuta_receiver_open(receiver, SETTINGS, width)) == KUTA_DONE;
+/* Whether both ends take the width and the limit; each answers for itself. */
+static int open_both(uint8_t width, uint16_t limit) {
+    return kuta_kind(kuta_sender_open(sender, SETTINGS, width, limit)) == KUTA_DONE &&
+           kuta_kind(kuta_receiver_open(receiver, SETTINGS, width, limit)) == KUTA_DONE;
 }
 
 int main(int count, char **arguments) {
-    const long rate = count == 2 || count == 3 ? number_of(arguments[1], WHOLE) : -1;
-    const long width = count == 3 ? number_of(arguments[2], UINT8_MAX) : 16;
-    if (rate < 0 || width < 0 || !open_both((uint8_t)width)) {
-        fprintf(stderr, "usage: lossy RATE [16|32]\nRATE: how many of %d octets the line damages, 0 to %d\n", WHOLE, WHOLE);
+    const long rate = count >= 2 && count <= 4 ? number_of(arguments[1], WHOLE) : -1;
+    const long width = count >= 3 ? number_of(arguments[2], UINT8_MAX) : KUTA_DEFAULT_WIDTH;
+    const long limit = count == 4 ? number_of(arguments[3], UINT16_MAX) : KUTA_DEFAULT_LIMIT;
+    if (rate < 0 || width < 0 || limit < (long)packet_length[HIGH] || !open_both((uint8_t)width, (uint16_t)limit)) {
+        fprintf(stderr, "usage: lossy RATE [16|32 [LIMIT]]\nRATE: how many of %d octets the line damages, 0 to %d\n", WHOLE, WHOLE);
+        fprintf(stderr, "LIMIT: the octets of the long packets, %d to %d\n", (int)packet_length[HIGH], KUTA_LARGEST_LIMIT);
         return 2;
     }
+    packet_length[LOW] = (size_t)limit;
     run((unsigned)rate);
     print_tally();
     if (fclose(stdout) != 0) {

@@ -6,11 +6,13 @@
  *
  *     cc -o receiver receiver.c -lkutarehopa && ./receiver < CAPTURE
  *
- * `./receiver 32` is for a line with a check sequence of 32 bits in place of 16. Exit status: 0 at the end of input, 1 where something
- * cannot be read or written, 2 where it is called wrongly. */
+ * `./receiver 32` is for a line with a check sequence of 32 bits in place of 16, `./receiver 16 9000` for one whose ends agreed on packets
+ * of up to 9,000 octets in place of 2,048. Exit status: 0 at the end of input, 1 where something cannot be read or written, 2 where it is
+ * called wrongly. */
 #define _POSIX_C_SOURCE 200809L
 #include <errno.h>
 #include <stdio.h>
+#include <stdlib.h>
 #include <string.h>
 #include <unistd.h>
 
@@ -18,10 +20,11 @@
 
 enum { SETTINGS = KUTA_ZXE | KUTA_PRE }; /* what both ends of this link agreed on */
 
-/* All that a receiver needs: its state, and two areas that are nobody else's from the opening on. They are long enough for either width. */
+/* All that a receiver needs: its state, and two areas that are nobody else's from the opening on. They are long enough for either width and
+ * for any limit. */
 struct receiver {
     uint8_t state[KUTA_STATE];
-    uint8_t first[KUTA_RECEIVER_AREA_32], second[KUTA_RECEIVER_AREA_32];
+    uint8_t first[KUTA_RECEIVER_AREA(32, KUTA_LARGEST_LIMIT)], second[KUTA_RECEIVER_AREA(32, KUTA_LARGEST_LIMIT)];
 };
 
 static void print_packet(const uint8_t *packet, unsigned length) {
@@ -75,8 +78,12 @@ static ssize_t read_some(int descriptor, uint8_t *octets, size_t room) {
     return count;
 }
 
-/* The width of the check sequence, which both ends agreed on too; 0 of another word, and no opening takes that. */
-static uint8_t width_of(const char *word) { return strcmp(word, "16") == 0 ? 16 : strcmp(word, "32") == 0 ? 32 : 0; }
+/* The width of the check sequence or the limit, which both ends agreed on too; 0 of a word that is neither, and no opening takes that. */
+static unsigned long number_of(const char *word, unsigned long most) {
+    char *end;
+    const unsigned long number = strtoul(word, &end, 10);
+    return *word < '0' || *word > '9' || *end != '\0' || number > most ? 0 : number;
+}
 
 static int fault(const char *what) {
     fprintf(stderr, "receiver: %s: %s\n", what, strerror(errno));
@@ -86,10 +93,11 @@ static int fault(const char *what) {
 int main(int count_of_words, char **words) {
     static struct receiver receiver;
     static uint8_t octets[4096]; /* any length will do: a frame may lie across two reads, and a read may have many frames */
-    const uint8_t width = width_of(count_of_words > 1 ? words[1] : "16");
+    const uint8_t width = (uint8_t)(count_of_words > 1 ? number_of(words[1], UINT8_MAX) : KUTA_DEFAULT_WIDTH);
+    const uint16_t limit = (uint16_t)(count_of_words > 2 ? number_of(words[2], UINT16_MAX) : KUTA_DEFAULT_LIMIT);
     ssize_t count;
-    if (count_of_words > 2 || kuta_kind(kuta_receiver_open(receiver.state, SETTINGS, width)) != KUTA_DONE) {
-        fprintf(stderr, "usage: %s [16|32] < CAPTURE\n", words[0]);
+    if (count_of_words > 3 || kuta_kind(kuta_receiver_open(receiver.state, SETTINGS, width, limit)) != KUTA_DONE) {
+        fprintf(stderr, "usage: %s [16|32 [LIMIT]] < CAPTURE, where LIMIT is from 2 to %d\n", words[0], KUTA_LARGEST_LIMIT);
         return 2;
     }
     while ((count = read_some(STDIN_FILENO, octets, sizeof octets)) > 0) {

@@ -6,9 +6,10 @@
 DIR/capture, DIR/count and DIR/exercise read standard input and write standard output; the output of
 each must be that of `model capture|count|exercise`, octet for octet, on random inputs made here.
 Exits 0 when nothing differs, 1 at the first difference (input and both outputs are saved) or when a
-run of full size did not see every answer of every call, at 16 bits and at 32, what a wrong width is
-answered, and every area shown inside, to its end and beyond it; 2 when a program is missing. All
-three programs must end with status 0, also after `E`.
+run of full size did not see every answer of every call, at 16 bits and at 32, with limits of 2 to 20,
+2,048 and 16,384, what a wrong width and a limit out of range are answered, and every area shown
+inside, to its end and beyond it; 2 when a program is missing. All three programs must end with
+status 0, also after `E`.
 """
 import argparse
 import collections
@@ -94,7 +95,45 @@ def build_model(folder):
 COMMANDS = b"oOlhnraAfstdx"
 WHOLE_AREAS = (20480, 20480, 20480, 20480, 40960)  # low, high, first, second, out
 WIDTHS = (16, 32)
-LENT = {16: (2050, 2050, 2051, 2051), 32: (2052, 2052, 2053, 2053)}  # exactly long enough; 16: lent at the start
+LIMITS = range(2, 16385)
+
+
+class Agreed(collections.namedtuple("Agreed", "width limit")):
+    """A width and a limit of an end, any; and the lengths that follow from good ones."""
+
+    @property
+    def good(self):
+        return self.width in WIDTHS and self.limit in LIMITS
+
+    @property
+    def shortest(self):
+        """Octets of the shortest frame."""
+        return 2 + self.width // 8
+
+    @property
+    def longest(self):
+        """Octets of the longest frame."""
+        return self.limit + self.width // 8
+
+    @property
+    def most(self):
+        """Octets that are decoded at most."""
+        return self.longest + 1
+
+    @property
+    def areas(self):
+        """Lengths of low, high, first and second that are exactly long enough."""
+        return self.longest, self.longest, self.most, self.most
+
+    def with_other_width(self):
+        return self._replace(width=48 - self.width)
+
+
+START = Agreed(16, 2048)  # what both ends have at the start, when areas exactly long enough for it are lent
+
+
+def lent(width, limit=START.limit):
+    return Agreed(width, limit).areas
 
 
 def number(n):
@@ -105,12 +144,12 @@ def octets(data):
     return number(len(data)) + data
 
 
-def open_sender(settings, width=16):
-    return b"o" + bytes((settings, width))
+def open_sender(settings, width=START.width, limit=START.limit):
+    return b"o" + bytes((settings, width)) + number(limit)
 
 
-def open_receiver(settings, width=16):
-    return b"O" + bytes((settings, width))
+def open_receiver(settings, width=START.width, limit=START.limit):
+    return b"O" + bytes((settings, width)) + number(limit)
 
 
 def load_low(packet):
@@ -156,14 +195,23 @@ def show(area, at, count):
 SHOW_STATES = b"d"
 
 
+def bit_by_bit(register, polynomial):
+    """A register when an octet has been shifted out of it."""
+    for _ in range(8):
+        register = (register >> 1) ^ (polynomial if register & 1 else 0)
+    return register
+
+
+SHIFTED = {width: [bit_by_bit(low, polynomial) for low in range(256)]
+           for width, polynomial in ((16, 0x8408), (32, 0xEDB88320))}
+
+
 def fcs(packet, width=16):
-    """RFC 1662's FCS, bit by bit, low octet first."""
-    polynomial = {16: 0x8408, 32: 0xEDB88320}[width]
+    """RFC 1662's FCS, low octet first."""
     register = start = 2 ** width - 1
+    shifted = SHIFTED[width]
     for octet in packet:
-        register ^= octet
-        for _ in range(8):
-            register = (register >> 1) ^ (polynomial if register & 1 else 0)
+        register = register >> 8 ^ shifted[register & 255 ^ octet]
     return (register ^ start).to_bytes(width // 8, "little")
 
 
@@ -230,16 +278,16 @@ def packet(rng, length=None):
 # Captures: what the model's sender sends, then damaged
 # ------------------------------------------------------------------------------------------------
 
-def sound_script(rng, least, urgent, width):
+def sound_script(rng, least, urgent, width, limit):
     """A script whose sender sends at least so many octets (about)."""
-    parts, sent = [lend(LENT[width]), open_sender(rng.choice((3, 3, 3, 3, 2, 0xFF, 1, 0)), width)], 0
+    parts, sent = [lend(lent(width, limit)), open_sender(rng.choice((3, 3, 3, 3, 2, 0xFF, 1, 0)), width, limit)], 0
     while sent < least:
-        low = packet(rng)
+        low = packet(rng, None if limit == 2048 else rng.randint(2, limit))
         parts.append(load_low(low))
         sent += len(low) + 4
         if rng.random() < urgent:
             for _ in range(rng.choice((1, 1, 2, 3))):
-                high = packet(rng, rng.choice((2, 3, 4, rng.randint(2, 40), rng.randint(2, 300))))
+                high = packet(rng, min(limit, rng.choice((2, 3, 4, rng.randint(2, 40), rng.randint(2, 300)))))
                 parts.append(next_octets(rng.choice((1, 2, 3, rng.randint(1, len(low) + 6)))))
                 parts.append(load_high(high))
                 sent += len(high) + 8
@@ -259,11 +307,12 @@ def sent_octets(out):
     return bytes.fromhex(digits.decode())
 
 
-def sound_line(programs, rng, least, urgent=0.5, width=16):
+def sound_line(programs, rng, least, urgent=0.5, width=16, limit=2048):
     """Undamaged octets of a line, whole frames."""
     pieces, have = [], 0
     while have < least:
-        piece = sent_octets(programs.of_model("exercise", sound_script(rng, min(least - have, 400_000), urgent, width)))
+        script = sound_script(rng, min(least - have, 400_000), urgent, width, limit)
+        piece = sent_octets(programs.of_model("exercise", script))
         pieces.append(piece)
         have += len(piece)
     return b"".join(pieces)
@@ -485,18 +534,25 @@ def compare_captures(programs, rng, total, seen):
 # Exercise scripts
 # ------------------------------------------------------------------------------------------------
 
-EDGES = (0, 1, 2, 3, 4, 5, 6, 7, 8, 10, 11, 206, 207, 208, 255, 256, 257, 258, *range(2048, 2056), 65535)
+EDGES = (0, 1, 2, 3, 4, 5, 6, 7, 8, 10, 11, 206, 207, 208, 255, 256, 257, 258, *range(2048, 2056),
+         *range(16384, 16392), 65535)
 WRONG_WIDTHS = (0, 1, 8, 15, 17, 24, 31, 33, 48, 64, 255)
-WIDTH = 10  # its place among the numbers of a state
-PLACES = (0, 1, 2040, 2051, 4095, 4096, 20470, 20478, 20479, 20480, 20481, 40950, 40958, 40959, 40960, 40961, 65534,
-          65535)
+LIMITS_BELOW, LIMITS_ABOVE = (0, 1), (16385, 16386, 16640, 18432, 32768, 32770, 65534, 65535)
+SMALL = range(2, 21)  # limits whose edges cost few octets
+WIDTH, LIMIT = 10, 11  # their places among the numbers of a state
+PLACES = (0, 1, 2040, 2051, 4095, 4096, 16380, 16389, 20470, 20478, 20479, 20480, 20481, 40950, 40958, 40959, 40960, 40961,
+          65534, 65535)
+
+
+def within(least, value, most):
+    return max(least, min(most, value))
 
 
 def edge(rng, around):
     """A value near one that matters."""
     kind = rng.random()
     if kind < 0.55:
-        return max(0, min(65535, around + rng.choice((-2, -1, 1, 1, 2))))
+        return within(0, around + rng.choice((-2, -1, 1, 1, 2)), 65535)
     if kind < 0.9:
         return rng.choice(EDGES)
     return rng.randrange(65536)
@@ -519,18 +575,66 @@ def width_number(rng):
     return rng.choice((*WIDTHS, wrong_width(rng), wrong_width(rng))) + 256 * rng.choice((0, 0, 0, 1, 255))
 
 
-def lane_numbers(rng, width):
-    least, most = 2 + width // 8, 2048 + width // 8
-    length = rng.choice((0, 0, least, least + 1, 30, 33, 209, 210, most - 1, most, rng.randint(least, most)))
+def wrong_limit(rng):
+    return rng.choice((*LIMITS_BELOW * 4, *LIMITS_ABOVE, rng.randint(16385, 65535)))
+
+
+def good_limit(rng):
+    """A small one most often; 16,384 seldom enough, since its octets are many."""
+    kind = rng.random()
+    if kind < 0.55:
+        return rng.choice((2, 2, 3, rng.choice(SMALL), rng.choice(SMALL)))
+    if kind < 0.8:
+        return 2048
+    if kind < 0.87:
+        return rng.choice((rng.randint(21, 40), rng.randint(199, 212), rng.randint(254, 258), 2047, 2049, 16383,
+                           rng.randint(21, 16383)))
+    return 16384
+
+
+def limit_number(rng, limit):
+    """A number for the limit of a state that was in bounds with another: near that one, out of range, or any."""
+    return rng.choice((within(0, limit + rng.choice((-3, -2, -1, 1, 2)), 65535), wrong_limit(rng), good_limit(rng),
+                       rng.randrange(65536)))
+
+
+def some_agreed(rng):
+    return Agreed(good_width(rng), good_limit(rng))
+
+
+def other_agreed(rng, agreed):
+    """The same mostly; another width, or a limit near this one or any."""
+    kind = rng.random()
+    if kind < 0.8:
+        return agreed
+    if kind < 0.87:
+        return agreed.with_other_width()
+    if kind < 0.94:
+        return agreed._replace(limit=within(2, agreed.limit + rng.choice((-2, -1, 1, 2)), 16384))
+    return some_agreed(rng)
+
+
+def opening_agreed(rng, agreed):
+    """The same mostly; others, or wrong ones."""
+    kind = rng.random()
+    if kind < 0.8:
+        return other_agreed(rng, agreed)
+    if kind < 0.87:
+        return agreed._replace(width=wrong_width(rng))
+    return Agreed(agreed.width if kind < 0.95 else wrong_width(rng), wrong_limit(rng))
+
+
+def lane_numbers(rng, agreed):
+    least, most = agreed.shortest, agreed.longest
+    length = min(most, rng.choice((0, 0, least, least + 1, 30, 33, 209, 210, most - 1, most, rng.randint(least, most))))
     if length == 0:
         return 0, rng.choice((0, 0, 0, 1))
     return length, rng.choice((0, 0, 1, length - 1, length, length + 1, rng.randint(0, length + 1)))
 
 
-def sender_state(rng):
-    """The eleven numbers of a sender state in bounds."""
-    width = good_width(rng)
-    low, high = lane_numbers(rng, width), lane_numbers(rng, width)
+def sender_state(rng, agreed):
+    """The twelve numbers of a sender state in bounds."""
+    low, high = lane_numbers(rng, agreed), lane_numbers(rng, agreed)
     line = rng.choice([0] + [1] * 2 * (low[0] > 0) + [2] * 2 * (high[0] > 0))
     left = zeros = 0
     if line:
@@ -540,18 +644,18 @@ def sender_state(rng):
         zeros = min(room - left, rng.choice((0, 1, 2))) if left else 0
     suspended = int(low[0] > 0 and line != 1 and rng.random() < 0.5)
     cut_due = int(line == 1 and left == 0 and rng.random() < 0.3)
-    return [settings(rng), *low, *high, left, zeros, line, suspended, cut_due, width]
+    return [settings(rng), *low, *high, left, zeros, line, suspended, cut_due, *agreed]
 
 
-def receiver_state(rng):
-    """The eleven numbers of a receiver state in bounds."""
-    width = good_width(rng)
-    most = 2049 + width // 8
-    held = rng.choice((0, 0, 1, 2, 6, most - 1, most, most + 1, rng.randint(0, most + 1)))
+def receiver_state(rng, agreed):
+    """The twelve numbers of a receiver state in bounds."""
+    most = agreed.most
+    held = min(most + 1, rng.choice((0, 0, 1, 2, 6, most - 1, most, most + 1, rng.randint(0, most + 1))))
     turn = rng.randrange(2)
     if rng.random() < 0.25:
-        return [settings(rng), turn, 0, held, 0, 0, 0, 0, 0, 0, width]
-    decoded = rng.choice((0, 0, 0, 1, 2, 4, 5, 6, 7, most - 8, *range(most - 3, most + 1), rng.randint(0, most)))
+        return [settings(rng), turn, 0, held, 0, 0, 0, 0, 0, 0, *agreed]
+    decoded = within(0, rng.choice((0, 0, 0, 1, 2, 4, 5, 6, 7, most - 8, *range(most - 3, most + 1), rng.randint(0, most))),
+                     most)
     left = rng.choice((0, 0, 0, 0, 1, 1, 2, 206, 207, rng.randint(0, 207)))
     zeros, last, resumed = rng.randrange(3), rng.randrange(3), rng.randrange(2)
     refusal = rng.choice((0, 0, 0, 0, rng.randint(5, 10)))
@@ -559,33 +663,37 @@ def receiver_state(rng):
         resumed = 1
     if refusal == 0 and last == 2 and left == 0 and decoded == 0:
         decoded = 1
-    return [settings(rng), turn, decoded, held, left, zeros, last, 1, resumed, refusal, width]
+    return [settings(rng), turn, decoded, held, left, zeros, last, 1, resumed, refusal, *agreed]
 
 
-def just_beyond(rng):
-    """A sender state beyond one limit alone, where a single number seldom comes to it by chance."""
-    line, width = rng.choice((1, 2)), good_width(rng)
-    lane, other = (rng.randint(300, 2050), rng.randint(0, 90)), (0, 0)
+def just_beyond(rng, agreed):
+    """A sender state beyond one bound alone, where a single number seldom comes to it by chance."""
+    line, longest = rng.choice((1, 2)), agreed.longest
+    lane, other = (longest, 0), (0, 0)
+    left, zeros = rng.choice(((1, 3), (0, 1), (0, 2)))
+    if longest >= 300 and rng.random() < 0.6:
+        lane = rng.randint(300, longest), rng.randint(0, 90)
+        left, zeros = rng.choice(((208, 0), (208, 2), (209, 1), (207, 3)))
     low, high = (lane, other) if line == 1 else (other, lane)
-    left, zeros = rng.choice(((208, 0), (208, 2), (209, 1), (207, 3), (1, 3), (0, 1), (0, 2)))
-    return [settings(rng), *low, *high, left, zeros, line, 0, 0, width]
+    return [settings(rng), *low, *high, left, zeros, line, 0, 0, *agreed]
 
 
-def sender_by_width(rng):
+def sender_at_edges(rng, agreed):
     """A sender whose lanes are in bounds at one width, at both or at none."""
     def lane():
-        length = rng.choice((0, *range(3, 8), *range(2049, 2054)))
+        length = rng.choice((0, *range(3, 8), *range(agreed.limit + 1, agreed.limit + 6)))
         return length, rng.choice((0, length, length + 1, length + 2))
 
-    return [settings(rng), *lane(), *rng.choice((lane(), (0, 0))), 0, 0, rng.randrange(3), 0, 0, good_width(rng)]
+    return [settings(rng), *lane(), *rng.choice((lane(), (0, 0))), 0, 0, rng.randrange(3), 0, 0, *agreed]
 
 
-def receiver_by_width(rng):
+def receiver_at_edges(rng, agreed):
     """A receiver whose counts are in bounds at one width, at both or at none; 10 and 13 are near."""
-    decoded = rng.choice((*range(3, 8), *range(2049, 2056)))
-    held = rng.choice((0, 0, 0, *range(2051, 2057)))
+    decoded = rng.choice((*range(3, 8), *range(agreed.limit + 1, agreed.limit + 8)))
+    held = rng.choice((0, 0, 0, *range(agreed.limit + 3, agreed.limit + 9)))
     left, zeros = rng.choice(((0, 0), (0, 0), (0, 0), (1, 0), (1, 1), (1, 2), (2, 1)))
-    return [settings(rng), rng.randrange(2), decoded, held, left, zeros, 2, 1, rng.randrange(2), 0, good_width(rng)]
+    return [settings(rng), rng.randrange(2), decoded, held, left, zeros, rng.choice((1, 2, 2, 2)), 1, rng.randrange(2), 0,
+            *agreed]
 
 
 def disturbed(rng, state):
@@ -594,18 +702,26 @@ def disturbed(rng, state):
         return state
     state = list(state)
     for _ in range(rng.choice((1, 1, 1, 2, 4))):
-        at = rng.randrange(11)
-        state[at] = width_number(rng) if at == WIDTH else edge(rng, state[at])
+        at = rng.randrange(12)
+        state[at] = (width_number(rng) if at == WIDTH else limit_number(rng, state[at]) if at == LIMIT else
+                     edge(rng, state[at]))
     return state
 
 
-def area_lengths(rng):
+def area_lengths(rng, agreed):
+    """Lengths that are exactly enough, enough for the other width or a limit near this one, longer, or too short."""
     kind = rng.random()
+    if kind < 0.45:
+        return agreed.areas
     if kind < 0.6:
-        return list(LENT[16 if kind < 0.15 else 32])
-    lengths = [rng.choice((least, 4096, 20480, rng.randint(least, 20480))) for least in LENT[32]]
+        return agreed.with_other_width().areas
+    if kind < 0.7:
+        return agreed._replace(limit=agreed.limit + rng.choice((-2, -1, 1, 2))).areas
+    lengths = [rng.choice((least, least + 1, 20480, rng.randint(least, 20480))) for least in agreed.areas]
     for _ in range(rng.choice((0, 1, 1, 4))):
-        lengths[rng.randrange(4)] = rng.choice((*range(2049, 2055), 0, 1, 20479, 20480, 20481, 40960, 65535))
+        n = rng.randrange(4)
+        lengths[n] = rng.choice((*range(agreed.areas[n] - 3, agreed.areas[n] + 2), 0, 1, 2050, 2051, 16386, 20479, 20480,
+                                 20481, 40960, 65535))
     return lengths
 
 
@@ -621,26 +737,51 @@ def area_number(rng):
     return rng.choice((5, 6, 7, 8, 127, 128, 252, 253, 254, 255)) if kind < 0.8 else rng.randrange(256)
 
 
-def area_octets(rng):
-    return packet(rng, rng.choice((4, 40, 300, 2051, 2053)))
+def area_octets(rng, agreed):
+    return packet(rng, rng.choice((4, 40, 300, agreed.most)))
 
 
-def line_octets(rng):
+def encoded(frame, runs=True):
+    """A frame as code blocks, with 00 for 7E: with the codes of zeros alone if wanted, never one for two zeros after data."""
+    d, at, out = frame + b"\0", 0, []
+    while at < len(d):
+        zeros = 0
+        while runs and zeros < 15 and d[at + zeros:at + zeros + 1] == b"\0":
+            zeros += 1
+        end = d.find(0, at, at + 207)
+        if zeros >= 3:
+            out.append(bytes((0xD0 + zeros,)))
+            at += zeros
+        elif end < 0:
+            out.append(b"\xd0" + d[at:at + 207])
+            at += 207
+        else:
+            out.append(bytes((end - at + 1,)) + d[at:end])
+            at = end + 1
+    return b"".join(out).replace(FLAG, b"\0")
+
+
+def line_octets(rng, agreed):
     """Octets for the receiver, meaningful ones most."""
     kind = rng.random()
     if kind < 0.5:
         return from_set(rng, CODES + FLAG * 3 + b"\x31\x05", rng.choice((1, 1, 1, 2, 3, 6, 20)))
-    if kind < 0.6:
+    if kind < 0.56:
         return rng.randbytes(rng.choice((1, 2, 30, 300)))
-    if kind < 0.7:
+    if kind < 0.68:
         return FLAG
-    if kind < 0.8:
+    if kind < 0.76:
         code, data = bytes((rng.randint(1, 8),)), b"1" * rng.randint(4, 6)
         return b"\xd1" * rng.randrange(2) + code + data + FLAG * rng.randrange(2)
-    if kind < 0.85:
-        return b"\xdf" * rng.choice((136, rng.randint(130, 138))) + bytes((rng.randint(0xDA, 0xDF),)) + FLAG
-    if kind < 0.9:
-        return b"\xd0" + b"1" * rng.randint(204, 208) + FLAG * rng.randrange(2)
+    if kind < 0.84:
+        # As many zeros as are decoded at most, or nearly.
+        return encoded(bytes(max(0, agreed.most - 1 + rng.choice((-2, -1, 0, 0, 1, 1, 2))))) + FLAG
+    if kind < 0.88:
+        # A block with about as many octets.
+        data = b"1" * min(206, agreed.most + rng.choice((-3, -2, -1, 0, 1, 2)))
+        return bytes((len(data) + rng.choice((1, 1, 2)),)).replace(FLAG, b"\0") + data + FLAG * rng.randrange(2)
+    if kind < 0.92:
+        return b"\xd0" + b"1" * rng.choice((205, 206, 207, 207, 207, 208)) + FLAG * rng.randrange(2)
     return zero_free(rng, rng.randint(1, 260)) + FLAG
 
 
@@ -650,15 +791,28 @@ def octets_shown(area, at, count):
     return max(0, min(count, whole - at))
 
 
+def limit_words(limit):
+    if limit not in LIMITS:
+        return "limit below 2" if limit < 2 else "limit above 16,384"
+    return "small limit" if limit in SMALL else f"limit {limit:,}" if limit in (2048, 16384) else "other limit"
+
+
+def words(agreed):
+    """What an answer is counted under."""
+    if agreed.width in WIDTHS:
+        return f"{agreed.width} bits, {limit_words(agreed.limit)}"
+    return "wrong width" if agreed.limit in LIMITS else f"wrong width, {limit_words(agreed.limit)}"
+
+
 class Script:
-    """A script and what each of its commands is, so that its output can be told apart. Of both ends it knows the width,
-    and of the areas how much is lent, so that an answer can be counted by these."""
+    """A script and what each of its commands is, so that its output can be told apart. Of both ends it knows width and
+    limit, and of the areas how much is lent, so that an answer can be counted by these."""
 
     def __init__(self):
         self.parts = []
         self.kinds = []
-        self.widths = {"sender": 16, "receiver": 16}
-        self.lengths = LENT[16]
+        self.ends = {"sender": START, "receiver": START}
+        self.lengths = START.areas
 
     def add(self, command, kind=None, calls=0, about=None):
         self.parts.append(command)
@@ -668,22 +822,28 @@ class Script:
         return b"".join(self.parts)
 
     def at(self, end, places):
-        """Under what an answer is counted: the width, and the areas of these places where they matter to it."""
-        width, shortest = self.widths[end], min(self.lengths[n] for n in places)
-        least = LENT[16][places[0]]
-        if width not in WIDTHS:
-            return "wrong width" if shortest >= least else "wrong width, short area"
-        return "32 bits, areas for 16" if width == 32 and least <= shortest < least + 2 else f"{width} bits"
+        """Under what an answer is counted: width and limit, and the areas of these places where they matter to it."""
+        agreed, shortest = self.ends[end], min(self.lengths[n] for n in places)
+        if agreed.good:
+            for_16 = agreed.width == 32 and agreed.areas[places[0]] - 2 <= shortest < agreed.areas[places[0]]
+            return "32 bits, areas for 16" if for_16 else words(agreed)
+        least = lent(16, agreed.limit if agreed.limit in LIMITS else 2)[places[0]]
+        return words(agreed) + ", short area" * (shortest < least)
 
-    def open(self, end, settings, width):
+    def refused(self, end, places):
+        """Whether a call is refused by width, limit or areas; then a few calls will do."""
+        agreed = self.ends[end]
+        return not agreed.good or any(self.lengths[n] < agreed.areas[n] for n in places)
+
+    def open(self, end, settings, agreed):
         """A refused opening leaves the end as it was."""
-        if width in WIDTHS:
-            self.widths[end] = width
+        if agreed.good:
+            self.ends[end] = agreed
         command = open_sender if end == "sender" else open_receiver
-        self.add(command(settings, width), f"open {end}", 1, f"{width} bits" if width in WIDTHS else "wrong width")
+        self.add(command(settings, *agreed), f"open {end}", 1, words(agreed))
 
     def hand(self, end, numbers):
-        self.widths[end] = numbers[WIDTH] % 256
+        self.ends[end] = Agreed(numbers[WIDTH] % 256, numbers[LIMIT])
         self.add((hand_sender if end == "sender" else hand_receiver)(numbers))
 
     def lend(self, lengths):
@@ -694,6 +854,7 @@ class Script:
         self.add(load_high(data) if lane else load_low(data), "load", 1, self.at("sender", (lane,)))
 
     def next(self, count):
+        count = min(count, 9) if self.refused("sender", (0, 1)) else count
         self.add(next_octets(count), "next octet", count, self.at("sender", (0, 1)))
 
     def states(self):
@@ -708,6 +869,7 @@ class Script:
 
     def receive(self, data):
         """Always followed by both states, so that its lines end at an `S`."""
+        data = data[:20] if self.refused("receiver", (2, 3)) else data
         self.add(receive(data), "receiver", len(data), self.at("receiver", (2, 3)))
         self.states()
 
@@ -724,9 +886,10 @@ def show_some(rng, script, area, near):
         script.show(area, 0, 65535)
 
 
-def add_load(rng, script):
-    lane = rng.randrange(2)
-    length = rng.choice((0, 1, 2, 3, 4, 9, 40, 206, 2047, 2048, 2049, 2050, rng.randint(0, 300)))
+def add_load(rng, script, agreed):
+    lane, longest = rng.randrange(2), agreed.limit
+    length = rng.choice((0, 1, 2, 3, 4, 9, 40, 206, longest - 1, longest, longest, longest + 1, longest + 2,
+                         rng.randint(0, 300)))
     if rng.random() < 0.01:
         length = rng.choice((20478, 20480, 20481, 65535))
     script.load(lane, packet(rng, length))
@@ -735,50 +898,51 @@ def add_load(rng, script):
     show_some(rng, script, lane, length)
 
 
-def add_sends(rng, script):
+def add_sends(rng, script, agreed):
     """Next-octet calls, one by one or many."""
     for _ in range(rng.choice((1, 2, 4))):
         script.next(rng.choice((0, 1, 1, 1, 1, 1, 2, 3, 9, rng.randint(1, 220))))
         if rng.random() < 0.7:
             script.states()
         if rng.random() < 0.1:
-            show_some(rng, script, rng.randrange(2), rng.choice((4, 2050)))
+            show_some(rng, script, rng.randrange(2), rng.choice((4, agreed.longest)))
 
 
-def add_sender_state(rng, script):
-    kind = rng.random()
-    state = (just_beyond(rng) if kind < 0.05 else sender_by_width(rng) if kind < 0.15 else
-             disturbed(rng, sender_state(rng)))
+def add_sender_state(rng, script, agreed):
+    agreed, kind = other_agreed(rng, agreed), rng.random()
+    state = (just_beyond(rng, agreed) if kind < 0.05 else sender_at_edges(rng, agreed) if kind < 0.15 else
+             disturbed(rng, sender_state(rng, agreed)))
     script.hand("sender", state)
     if rng.random() < 0.3:
-        script.add(fill(rng.randrange(2), rng.choice((0, 0, 0, 3, 2040)), area_octets(rng)))
+        script.add(fill(rng.randrange(2), rng.choice((0, 0, 0, 3, agreed.limit - 2)), area_octets(rng, agreed)))
     if rng.random() < 0.3:
-        add_load(rng, script)
-    add_sends(rng, script)
+        add_load(rng, script, agreed)
+    add_sends(rng, script, agreed)
 
 
-def add_receiver_state(rng, script):
-    state = receiver_by_width(rng) if rng.random() < 0.2 else disturbed(rng, receiver_state(rng))
+def add_receiver_state(rng, script, agreed):
+    agreed = other_agreed(rng, agreed)
+    state = receiver_at_edges(rng, agreed) if rng.random() < 0.2 else disturbed(rng, receiver_state(rng, agreed))
     script.hand("receiver", state)
     if rng.random() < 0.15:
-        script.add(fill(2 + rng.randrange(2), rng.choice((0, 0, 2040)), area_octets(rng)))
+        script.add(fill(2 + rng.randrange(2), rng.choice((0, 0, agreed.limit - 2)), area_octets(rng, agreed)))
     for _ in range(rng.choice((1, 1, 2, 4))):
-        script.receive(line_octets(rng))
+        script.receive(line_octets(rng, agreed))
         show_some(rng, script, 2 + rng.randrange(2), state[2])
 
 
-def add_decoded_frame(rng, script):
+def add_decoded_frame(rng, script, agreed):
     """A state handed in with a whole frame, good or nearly, decoded in one of the areas; seldom a frame of the other
-    width."""
-    width = good_width(rng)
-    frame = packet(rng, rng.choice((0, 1, 2, 3, 4, 30, 2047, 2048)))
-    frame += fcs(frame, 48 - width if rng.random() < 0.15 else width) + b"\0"
+    width, or one that is longer than the limit allows."""
+    longest = agreed.limit
+    frame = packet(rng, rng.choice((min(longest, rng.choice((0, 1, 2, 3, 4, 30))), longest - 1, longest, longest)))
+    frame += fcs(frame, 48 - agreed.width if rng.random() < 0.15 else agreed.width) + b"\0"
     if rng.random() < 0.3:
         frame = flip_bits(rng, frame)
     turn = rng.randrange(2)
     script.add(fill(2 + turn, 0, frame))
-    held = rng.choice((0, 0, 1, 6, 2052, 2054))
-    state = [settings(rng), turn, len(frame), held, 0, 0, 2, 1, rng.randrange(2), 0, width]
+    held = rng.choice((0, 0, 1, 6, longest + 4, longest + 6))
+    state = [settings(rng), turn, len(frame), held, 0, 0, 2, 1, rng.randrange(2), 0, *agreed]
     if rng.random() < 0.3:
         state = disturbed(rng, state)
     script.hand("receiver", state)
@@ -787,45 +951,54 @@ def add_decoded_frame(rng, script):
     show_some(rng, script, 2 + turn, len(frame))
 
 
-def add_held_frame(rng, script):
+def add_held_frame(rng, script, agreed):
     """A state handed in with the beginning of a good frame held; the rest arrives after D1."""
-    width = good_width(rng)
-    whole = zero_free(rng, rng.choice((2, 9, 100)))
-    whole += fcs(whole, width)
+    whole = zero_free(rng, min(agreed.limit, rng.choice((2, 9, 100))))
+    whole += fcs(whole, agreed.width)
     if 0 in whole:
         return
     cut, turn = rng.randint(0, len(whole)), rng.randrange(2)
     script.add(fill(3 - turn, 0, whole[:cut]))
-    script.hand("receiver", [rng.choice((2, 3, 3, 1)), turn, 0, cut + 1, 0, 0, 0, 0, 0, 0, width])
+    script.hand("receiver", [rng.choice((2, 3, 3, 1)), turn, 0, cut + 1, 0, 0, 0, 0, 0, 0, *agreed])
     rest = whole[cut:]
     script.receive(b"\xd1" + bytes((len(rest) + 1,)).replace(FLAG, b"\0") + rest.replace(FLAG, b"\0") + FLAG)
     show_some(rng, script, 3 - turn, cut)
 
 
-def opening_width(rng, width):
-    """This width mostly; the other one, or a wrong one."""
-    return rng.choice((width,) * 8 + (48 - width, wrong_width(rng)))
+def add_whole_frame(rng, script, agreed):
+    """A frame about as long as the limit allows, of few octets where it is long; and the receiver of another limit."""
+    length = max(0, agreed.limit + rng.choice((-1, 0, 0, 0, 1, 2)))
+    data = packet(rng, length) if length < 300 or rng.random() < 0.02 else bytes(length)
+    line = encoded(data + fcs(data, agreed.width)) + FLAG
+    script.open("receiver", rng.choice((3, 3, 3, 1, 2)), other_agreed(rng, agreed))
+    if rng.random() < 0.3:
+        line = b"\x05\x31" + FLAG + line
+    if rng.random() < 0.3:
+        cut = rng.randrange(len(line))
+        line = line[:cut] + FLAG + line[cut:]
+    script.receive(line)
+    show_some(rng, script, 2 + rng.randrange(2), length)
 
 
-def add_line(rng, script, pools):
+def add_line(rng, script, agreed, pools):
     """A stretch of a line, sound or damaged, received from fresh or going on."""
-    width = good_width(rng)
     if rng.random() < 0.6:
-        script.open("receiver", settings(rng), opening_width(rng, width))
-    begin, end = stretch(rng, pools[width], rng.choice((60, 60, 300, 300, 3000)))
-    data = pools[width][begin:end]
+        script.open("receiver", settings(rng), opening_agreed(rng, agreed))
+    pool = pools[agreed.width, next((limit for limit in POOL_LIMITS if agreed.limit <= limit), POOL_LIMITS[-1])]
+    begin, end = stretch(rng, pool, rng.choice((60, 60, 300, 300, 3000)))
+    data = pool[begin:end]
     if rng.random() < 0.6:
         data = damaged(rng, data, 1)[:60000]
     script.receive(data)
     show_some(rng, script, 2 + rng.randrange(2), 5)
 
 
-def add_session(rng, script):
+def add_session(rng, script, agreed):
     """Loads and sends of an opened sender."""
-    script.open("sender", settings(rng), opening_width(rng, good_width(rng)))
+    script.open("sender", settings(rng), opening_agreed(rng, agreed))
     for _ in range(rng.choice((1, 3, 6))):
-        add_load(rng, script)
-        add_sends(rng, script)
+        add_load(rng, script, agreed)
+        add_sends(rng, script, agreed)
 
 
 def add_fills(rng, script):
@@ -843,47 +1016,61 @@ def add_fills(rng, script):
         script.show(other, WHOLE_AREAS[other] - 4, 9)
 
 
-def add_wrong_width(rng, script):
-    """States with a wrong width, the rest in bounds or not, mostly with areas too short; and openings."""
-    before, lengths = script.lengths, [rng.choice((0, 1, 2049, 2050, 2051, 2053)) for _ in range(4)]
-    script.lend(lengths if rng.random() < 0.8 else LENT[32])
+def wrong_agreed(rng, agreed):
+    """A wrong width, a limit out of range, or both."""
+    return rng.choice((agreed._replace(width=wrong_width(rng)), agreed._replace(limit=wrong_limit(rng)),
+                       Agreed(wrong_width(rng), wrong_limit(rng))))
+
+
+def add_wrong(rng, script, agreed):
+    """States with a wrong width or limit, the rest in bounds or not, mostly with areas too short; and openings."""
+    before, short = script.lengths, (0, 1, 2, 3, 4, 5, agreed.limit - 1, agreed.limit, agreed.longest)
+    script.lend([rng.choice(short) for _ in range(4)] if rng.random() < 0.7 else agreed.areas)
     for end, make in (("sender", sender_state), ("receiver", receiver_state)):
-        if rng.random() < 0.3:
-            script.open(end, settings(rng), wrong_width(rng))
-        script.hand(end, [*disturbed(rng, make(rng))[:WIDTH], wrong_width(rng) + 256 * rng.choice((0, 0, 1, 255))])
+        if rng.random() < 0.6:
+            script.open(end, settings(rng), wrong_agreed(rng, agreed))
+        width, limit = wrong_agreed(rng, agreed)
+        script.hand(end, [*disturbed(rng, make(rng, agreed))[:WIDTH], width + 256 * rng.choice((0, 0, 1, 255)), limit])
     for _ in range(2):
-        script.load(rng.randrange(2), packet(rng, rng.choice((0, 1, 2, 2048, 2049))))
+        script.load(rng.randrange(2), packet(rng, rng.choice((0, 1, 2, 20, 2048, 2049))))
     script.next(rng.randint(1, 3))
     script.receive(rng.choice((FLAG, b"\x05\x31\x7e", b"\xd1", b"1")))
     script.lend(before)
 
 
+POOL_LIMITS = (4, 20, 2048)  # lines of packets up to these are sent, to take stretches from
+
+
 def any_script(rng, pools):
-    script = Script()
-    if rng.random() < 0.8:
-        script.lend(LENT[32])
-    for _ in range(rng.choice((1, 5, 40, 120))):
-        if rng.random() < 0.15:
-            script.lend(area_lengths(rng))
+    """At each step width and limit are those of the step before, or others; the areas lent are mostly those for them."""
+    script, agreed = Script(), START
+    for step in range(rng.choice((1, 5, 40, 120))):
+        if rng.random() < (0.3 if step else 0.8):
+            agreed = some_agreed(rng)
+            script.lend(agreed.areas if rng.random() < 0.8 else area_lengths(rng, agreed))
+        elif rng.random() < 0.15:
+            script.lend(area_lengths(rng, agreed))
         if rng.random() < 0.05:
             script.add(lend_out(out_length(rng)))
         kind = rng.random()
-        if kind < 0.33:
-            add_sender_state(rng, script)
-        elif kind < 0.68:
-            add_receiver_state(rng, script)
-        elif kind < 0.76:
-            add_decoded_frame(rng, script)
-        elif kind < 0.83:
-            add_held_frame(rng, script)
-        elif kind < 0.86:
-            add_line(rng, script, pools)
-        elif kind < 0.90:
+        if kind < 0.31:
+            add_sender_state(rng, script, agreed)
+        elif kind < 0.63:
+            add_receiver_state(rng, script, agreed)
+        elif kind < 0.71:
+            add_decoded_frame(rng, script, agreed)
+        elif kind < 0.77:
+            add_held_frame(rng, script, agreed)
+        elif kind < 0.82:
+            add_whole_frame(rng, script, agreed)
+        elif kind < 0.85:
+            add_line(rng, script, agreed, pools)
+        elif kind < 0.88:
             add_fills(rng, script)
         elif kind < 0.92:
-            add_wrong_width(rng, script)
+            add_wrong(rng, script, agreed)
         else:
-            add_session(rng, script)
+            add_session(rng, script, agreed)
     if rng.random() < 0.1:
         script.show_all()
     return script
@@ -921,26 +1108,72 @@ def every_width():
     parts = []
     for width in range(256):
         parts += [open_sender(width, width), open_receiver(width, width), SHOW_STATES]
-        for lengths in ((0,) * 4, *LENT.values()):
-            state = (3, *[0] * 9, width)
+        for lengths in ((0,) * 4, lent(16), lent(32)):
+            state = (3, *[0] * 9, width, 2048)
             parts += [lend(lengths), hand_sender(state), load_low(b""), load_high(b"AB"), next_octets(2),
                       hand_receiver(state), receive(b"\x06" + b"11111" + FLAG), SHOW_STATES]
     return b"".join(parts)
 
 
+def every_limit():
+    """Both ends opened with each of the 65,536, and states handed in with it, as much as can be being lent."""
+    parts = [lend((20480,) * 4)]
+    for limit in range(65536):
+        state = (3, *[0] * 9, 16, limit)
+        parts += [open_sender(limit % 256, 16, limit), open_receiver(limit % 256, 32, limit), SHOW_STATES,
+                  hand_sender(state), next_octets(1), hand_receiver(state), receive(FLAG)]
+    return b"".join(parts)
+
+
+def limit_and_width(limit, width):
+    """Both ends opened so, and states handed in with it: nothing held, as much as can be, and one octet more. Calls with
+    nothing lent, with one octet less than is wanted in each area, exactly that and more; packets and frames as long as
+    can be, and one octet longer."""
+    agreed = Agreed(width, limit)
+    about = Agreed(width if width in WIDTHS else 16, limit if limit in LIMITS else 2)
+    lengths = [(0,) * 4, about.areas, tuple(n + 1 for n in about.areas), (20480,) * 4]
+    lengths += [tuple(n - (at == place) for place, n in enumerate(about.areas)) for at in range(4)]
+    parts = [open_sender(3, *agreed), open_receiver(3, *agreed), SHOW_STATES]
+    for areas in lengths:
+        parts += [lend(areas), hand_sender((3, *[0] * 9, *agreed)), load_low(bytes(about.limit + 1)), load_high(b"1"),
+                  load_low(bytes(about.limit)), load_high(b"AB"), SHOW_STATES, next_octets(9)]
+        for length in (about.longest, about.longest + 1):
+            parts += [hand_sender((3, length, length + 1, *[0] * 5, 1, 0, *agreed)), next_octets(2), SHOW_STATES]
+        data = bytes(about.limit)
+        for line in (encoded(data + fcs(data, about.width)), encoded(bytes(about.longest)), encoded(bytes(about.most))):
+            parts += [hand_receiver((3, *[0] * 9, *agreed)), receive(line + FLAG), SHOW_STATES]
+        for count in (about.most, about.most + 1):
+            parts += [hand_receiver((3, 0, 0, count + 1, *[0] * 6, *agreed)), receive(b"\xd1\x01" + FLAG), SHOW_STATES,
+                      hand_receiver((3, 1, count, 0, 0, 0, 2, 1, 0, 0, *agreed)), receive(FLAG), SHOW_STATES]
+    return b"".join(parts)
+
+
+def lent_at_start(width, limit):
+    """Calls with what is lent at the start."""
+    return b"".join((open_sender(3, width, limit), open_receiver(3, width, limit), load_low(b"AB"), load_high(b"AB"),
+                     next_octets(1), receive(b"\x05\x31" + FLAG), SHOW_STATES))
+
+
 def fixed_scripts(rng):
     """Named scripts that chance would seldom make."""
     yield "nothing", b""
+    for width in WIDTHS:
+        for limit in range(2045, 2051):
+            yield f"what is lent at the start, {width} bits, limit {limit}", lent_at_start(width, limit)
     yield "the start", SHOW_STATES + b"".join(show(area, 0, 65535) for area in range(len(WHOLE_AREAS)))
     for octet in range(256):
         yield f"command {octet} alone", SHOW_STATES + bytes((octet,))
     for command in (open_sender(3, 32), open_receiver(3, 32), load_low(b"AB"), load_high(b"AB"), next_octets(3),
                     receive(b"\x01\x7e\x01\x7e"), lend((1, 2, 3, 4)), lend_out(5), fill(4, 1, b"AB"),
-                    hand_sender(range(11)), hand_receiver(range(11)), show(0, 1, 2)):
+                    hand_sender(range(12)), hand_receiver(range(12)), show(0, 1, 2)):
         for cut in range(1, len(command) + 1):
             yield f"command {command[:1].decode()}, {cut} octets", SHOW_STATES + command[:cut]
     yield "every area number", every_area_number()
     yield "every width", every_width()
+    yield "every limit", every_limit()
+    for limit in (0, 1, 2, 3, 2048, 16383, 16384, 16385, 65535):
+        for width in (16, 32, 0, 24, 255):
+            yield f"limit {limit}, width {width}", limit_and_width(limit, width)
     yield "longest operands", longest_operands(rng)
 
 
@@ -977,7 +1210,7 @@ def note_answers(script, out, seen):
                 seen.answers[kind, about, answer_of(line)] += 1
             at += calls
         elif kind in ("open sender", "open receiver"):
-            opened = about != "wrong width"
+            opened = about in GOOD
             seen.answers[kind, about, "opened" if opened else answer_of(lines[at])] += 1
             at += not opened
         elif kind == "receiver":
@@ -997,7 +1230,8 @@ def note_answers(script, out, seen):
 
 
 def compare_scripts(programs, rng, total, seen):
-    pools = {width: sound_line(programs, rng, 200_000, 0.8, width) for width in WIDTHS}
+    pools = {(width, limit): sound_line(programs, rng, 200_000 if limit == 2048 else 50_000, 0.8, width, limit)
+             for width in WIDTHS for limit in POOL_LIMITS}
     for name, data in fixed_scripts(rng):
         programs.same("exercise", data, name)
         seen.scripts += 1
@@ -1020,27 +1254,41 @@ CALLS = {"load": ["D", "R 1", "R 2", "R 3", "R 4"],
          "next octet": ["O", "I", "R 2", "R 3"],
          "receiver": ["Quiet", "P area 0", "P area 1", "H replaced 0", "H replaced 1",
                       *(f"R {n}" for n in (2, 3, *range(5, 15)))]}
-# A wrong width is 3, whatever is lent; with areas for 16 bits alone a state of 32 is 2.
-ANSWERS = ([(call, f"{width} bits", a) for call, answers in CALLS.items() for width in WIDTHS for a in answers]
-           + [(call, about, a) for call in CALLS for about, a in (
-               ("32 bits, areas for 16", "R 2"), ("wrong width", "R 3"), ("wrong width, short area", "R 3"))]
-           + [(f"open {end}", about, a) for end in ("sender", "receiver") for about, a in (
-               ("16 bits", "opened"), ("32 bits", "opened"), ("wrong width", "R 3"))]
-           + [("show", "", words) for n in range(len(WHOLE_AREAS))
-              for words in (f"area {n}", f"area {n} to its end", f"beyond area {n}")]
-           + [("show", "", "no such area")])
+WRONG_LIMITS = ("limit below 2", "limit above 16,384")
+# Good widths and limits. Every answer must be seen at small limits and at 2,048, and these at 16,384.
+GOOD = {f"{width} bits, {limit}": limit for width in WIDTHS for limit in (
+    "small limit", "limit 2,048", "limit 16,384", "other limit")}
+AT_16384 = ("D", "O", "I", "Quiet", "P area 0", "P area 1", "H replaced 0", "H replaced 1",
+            *(f"R {n}" for n in (1, 2, 3, 4, 10, 14)))
+KNOWN = {(call, about, a) for call, answers in CALLS.items() for about in GOOD for a in answers}
+ANSWERS = [(call, about, a) for call, answers in CALLS.items() for about, limit in GOOD.items() for a in answers
+           if limit != "other limit" and (limit != "limit 16,384" or a in AT_16384)]
+# With areas for 16 bits alone a state of 32 is 2. A wrong width or limit is 3, whatever is lent; to open with, a wrong
+# limit is 23, whatever the width.
+ANSWERS += [(call, "32 bits, areas for 16", "R 2") for call in CALLS]
+WRONG = ["wrong width", *(f"{width}, {limit}" for width in ("16 bits", "32 bits", "wrong width") for limit in WRONG_LIMITS)]
+ANSWERS += [(call, about + short, "R 3") for call in CALLS for about in WRONG for short in ("", ", short area")]
+ANSWERS += [(call, about, "opened" if about in GOOD else "R 23" if about.endswith(WRONG_LIMITS) else "R 3")
+            for call in ("open sender", "open receiver") for about in (*GOOD, *WRONG)]
+ANSWERS += [("show", "", what) for n in range(len(WHOLE_AREAS))
+            for what in (f"area {n}", f"area {n} to its end", f"beyond area {n}")] + [("show", "", "no such area")]
+KNOWN |= set(ANSWERS)
 
 
 def print_seen(seen):
     print(f"captures: {seen.captures}, octets compared: {seen.octets}")
     print("reports seen: " + ", ".join(f"{kind} {count}" for kind, count in seen.reports.items()))
     print(f"scripts: {seen.scripts}, calls compared: {seen.calls}")
-    for call, about in dict.fromkeys(key[:2] for key in ANSWERS):
-        print(f"answers of {call}{', ' * bool(about)}{about}: " + ", ".join(
-            f"{key[2]} {seen.answers[key]}" for key in ANSWERS if key[:2] == (call, about)))
+    several = collections.Counter(key[:2] for key in ANSWERS)
+    lines = collections.defaultdict(list)
+    for call, about, answer in ANSWERS:  # where only one answer can come, all that it comes for stands in its line
+        head, item = (about, answer) if several[call, about] > 1 else (answer, about)
+        lines[", ".join(filter(None, (call, head)))].append(f"{item} {seen.answers[call, about, answer]}")
+    for head, items in lines.items():
+        print(f"answers of {head}: " + "; ".join(items))
     missing = [kind for kind in REPORTS if not seen.reports[kind]]
     missing += [" ".join(filter(None, key)) for key in ANSWERS if not seen.answers[key]]
-    strange = [" ".join(filter(None, key)) for key in seen.answers if key not in ANSWERS]
+    strange = [" ".join(filter(None, key)) for key in seen.answers if key not in KNOWN]
     print("not seen: " + (", ".join(missing) or "none"))
     if strange:
         print("not known: " + ", ".join(strange))

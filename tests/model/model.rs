@@ -1,13 +1,13 @@
 //! An independent model of the COBS link of document 01 (settings ZXE and PRE, two lanes, two
-//! receive areas), with the 32-bit check of document 02, slip 1. Written from these documents, the
-//! readings of 02 that were agreed on, and the exercise driver's format alone. "01" and "02" in the
-//! comments are the documents, and "step n" is 01's numbered step. A comment `Reading:` marks a
-//! place where the words were weighed.
+//! receive areas), with the 32-bit check and the agreed limit of a packet of document 02, slips 1
+//! and 11. Written from these documents, the readings of 02 that were agreed on, and the exercise
+//! driver's format alone. "01" and "02" in the comments are the documents, and "step n" is 01's
+//! numbered step. A comment `Reading:` marks a place where the words were weighed.
 //!
 //!     rustc -C opt-level=3 --edition 2021 -o model model.rs
 //!
-//!     model capture    raw octets -> one line a report (16 bits)
-//!     model count      raw octets -> the thirteen counts of the tally (16 bits)
+//!     model capture    raw octets -> one line a report (16 bits, packets to 2,048)
+//!     model count      raw octets -> the thirteen counts of the tally (the same)
 //!     model exercise   commands of docs/EXERCISE.md -> one line an answer
 
 use std::io::{self, Read, Write};
@@ -39,10 +39,10 @@ const PAIR_BLOCK: usize = 30;
 const RUN_FEWEST: usize = 3;
 const RUN_MOST: usize = 15;
 
+/// Fewest octets of a packet, whatever was agreed.
 const PACKET_SHORTEST: usize = 2;
-const PACKET_LONGEST: usize = 2048;
 
-/// Numbers of 01's refusal table.
+/// Numbers of 01's refusal table, and of those that 02 adds.
 mod refusal {
     pub const PACKET_LENGTH: u8 = 1;
     pub const AREA_SHORT: u8 = 2;
@@ -58,6 +58,7 @@ mod refusal {
     pub const LAST_FULL: u8 = 12;
     pub const TOO_LITTLE: u8 = 13;
     pub const FCS: u8 = 14;
+    pub const LIMIT: u8 = 23;
     /// The first and last that refuse a frame.
     pub const FRAME_FIRST: u8 = BEGINS_FF;
     pub const FRAME_LAST: u8 = FCS;
@@ -81,21 +82,51 @@ impl Settings {
     }
 }
 
-/// The bits of the FCS, kept beside the settings octet. A state handed in may have any number here;
-/// only with an agreed one do the lengths below mean something.
+/// What is agreed beside the settings octet. A state handed in may have any numbers here; only with
+/// good ones do the lengths below mean something, and all of these follow from the two.
 #[derive(Clone, Copy)]
-struct Width(u8);
+struct Agreed {
+    /// The bits of the FCS.
+    width: u8,
+    /// The octets of the longest packet.
+    limit: u16,
+}
 
-impl Width {
-    const SHORT: Width = Width(16);
-    const LONG: Width = Width(32);
+impl Agreed {
+    /// What captures have, and an end before its first opening.
+    const BASE: Agreed = Agreed {
+        width: 16,
+        limit: 2_048,
+    };
+    /// Limits that may be agreed.
+    const LIMITS: std::ops::RangeInclusive<u16> = 2..=16_384;
 
-    fn agreed(self) -> bool {
-        self.0 == Width::SHORT.0 || self.0 == Width::LONG.0
+    fn limit_good(self) -> bool {
+        Agreed::LIMITS.contains(&self.limit)
+    }
+
+    fn width_good(self) -> bool {
+        matches!(self.width, 16 | 32)
+    }
+
+    /// The two, or the refusal of an end to be opened with them: 23 comes first.
+    fn at_opening(self) -> Result<Agreed, u8> {
+        if !self.limit_good() {
+            Err(refusal::LIMIT)
+        } else if !self.width_good() {
+            Err(refusal::STATE)
+        } else {
+            Ok(self)
+        }
+    }
+
+    /// What every other call tests before it looks at areas and state.
+    fn good(self) -> bool {
+        self.limit_good() && self.width_good()
     }
 
     fn check(self) -> &'static Check {
-        if self.0 == Width::LONG.0 {
+        if self.width == 32 {
             &CHECK_32
         } else {
             &CHECK_16
@@ -103,16 +134,28 @@ impl Width {
     }
 
     fn fcs_length(self) -> usize {
-        usize::from(self.0 / 8)
+        usize::from(self.width / 8)
+    }
+
+    fn packet_longest(self) -> usize {
+        usize::from(self.limit)
+    }
+
+    fn packet_lengths(self) -> std::ops::RangeInclusive<usize> {
+        PACKET_SHORTEST..=self.packet_longest()
     }
 
     /// A frame is a packet and its FCS.
+    fn frame_lengths(self) -> std::ops::RangeInclusive<usize> {
+        self.frame_shortest()..=self.frame_longest()
+    }
+
     fn frame_shortest(self) -> usize {
         PACKET_SHORTEST + self.fcs_length()
     }
 
     fn frame_longest(self) -> usize {
-        PACKET_LONGEST + self.fcs_length()
+        self.packet_longest() + self.fcs_length()
     }
 
     /// Most decoded octets: the longest frame and its phantom.
@@ -326,9 +369,8 @@ impl Lane {
         self.position == self.length + 1
     }
 
-    fn in_bounds(self, width: Width) -> bool {
-        (self.length == 0
-            || (width.frame_shortest()..=width.frame_longest()).contains(&self.length))
+    fn in_bounds(self, agreed: Agreed) -> bool {
+        (!self.loaded() || agreed.frame_lengths().contains(&self.length))
             && self.position <= self.length + 1
     }
 }
@@ -349,7 +391,7 @@ enum Next {
 #[derive(Clone, Copy)]
 struct Sender {
     settings: Settings,
-    width: Width,
+    agreed: Agreed,
     low: Lane,
     high: Lane,
     /// Data octets left in the block.
@@ -363,18 +405,14 @@ struct Sender {
 
 impl Sender {
     /// An opened sender, or the number of the refusal.
-    fn open(settings: Settings, width: Width) -> Result<Sender, u8> {
-        if width.agreed() {
-            Ok(Sender::fresh(settings, width))
-        } else {
-            Err(refusal::STATE)
-        }
+    fn open(settings: Settings, agreed: Agreed) -> Result<Sender, u8> {
+        Ok(Sender::fresh(settings, agreed.at_opening()?))
     }
 
-    fn fresh(settings: Settings, width: Width) -> Sender {
+    fn fresh(settings: Settings, agreed: Agreed) -> Sender {
         Sender {
             settings,
-            width,
+            agreed,
             low: Lane::default(),
             high: Lane::default(),
             left: 0,
@@ -399,11 +437,11 @@ impl Sender {
         }
     }
 
-    /// 01's paragraph "In bounds", the sender's part, clause by clause; the width is an agreed one.
+    /// 01's paragraph "In bounds", the sender's part, clause by clause; width and limit are good.
     fn in_bounds(&self) -> bool {
         let low_on_line = self.on_line == Some(LaneName::Low);
-        self.low.in_bounds(self.width)
-            && self.high.in_bounds(self.width)
+        self.low.in_bounds(self.agreed)
+            && self.high.in_bounds(self.agreed)
             && self.left <= FULL_BLOCK
             && self.zeros <= 2
             && self.line_in_bounds()
@@ -428,11 +466,11 @@ impl Sender {
 
     /// Load of a lane, lent that lane's area.
     fn load(&mut self, name: LaneName, area: &mut [u8], packet: &[u8]) -> Loaded {
-        // Refusals of a call in the order 3 by the width, 2, 3 by the rest of the state, 4, 1.
-        if !self.width.agreed() {
+        // Refusals of a call in the order 3 by width or limit, 2, 3 by the rest of the state, 4, 1.
+        if !self.agreed.good() {
             return Loaded::Refused(refusal::STATE);
         }
-        if area.len() < self.width.sender_area() {
+        if area.len() < self.agreed.sender_area() {
             return Loaded::Refused(refusal::AREA_SHORT);
         }
         if !self.in_bounds() {
@@ -441,11 +479,11 @@ impl Sender {
         if self.lane(name).loaded() {
             return Loaded::Refused(refusal::LANE_HOLDS);
         }
-        if !(PACKET_SHORTEST..=PACKET_LONGEST).contains(&packet.len()) {
+        if !self.agreed.packet_lengths().contains(&packet.len()) {
             return Loaded::Refused(refusal::PACKET_LENGTH);
         }
-        let fcs_length = self.width.fcs_length();
-        let fcs = self.width.check().complement_over(packet);
+        let fcs_length = self.agreed.fcs_length();
+        let fcs = self.agreed.check().complement_over(packet);
         let length = packet.len() + fcs_length;
         area[..packet.len()].copy_from_slice(packet);
         area[packet.len()..length].copy_from_slice(&fcs[..fcs_length]);
@@ -458,10 +496,10 @@ impl Sender {
 
     /// Next octet, lent both areas.
     fn next_octet(&mut self, low_area: &[u8], high_area: &[u8]) -> Next {
-        if !self.width.agreed() {
+        if !self.agreed.good() {
             return Next::Refused(refusal::STATE);
         }
-        let least = self.width.sender_area();
+        let least = self.agreed.sender_area();
         if low_area.len() < least || high_area.len() < least {
             return Next::Refused(refusal::AREA_SHORT);
         }
@@ -611,7 +649,7 @@ type Areas<'a> = [&'a mut [u8]; 2];
 #[derive(Clone, Copy)]
 struct Receiver {
     settings: Settings,
-    width: Width,
+    agreed: Agreed,
     /// Which area works: 0 the first, 1 the second. The other one is the held area.
     work: usize,
     decoded: usize,
@@ -628,18 +666,14 @@ struct Receiver {
 
 impl Receiver {
     /// An opened receiver, or the number of the refusal.
-    fn open(settings: Settings, width: Width) -> Result<Receiver, u8> {
-        if width.agreed() {
-            Ok(Receiver::fresh(settings, width))
-        } else {
-            Err(refusal::STATE)
-        }
+    fn open(settings: Settings, agreed: Agreed) -> Result<Receiver, u8> {
+        Ok(Receiver::fresh(settings, agreed.at_opening()?))
     }
 
-    fn fresh(settings: Settings, width: Width) -> Receiver {
+    fn fresh(settings: Settings, agreed: Agreed) -> Receiver {
         Receiver {
             settings,
-            width,
+            agreed,
             work: 0,
             decoded: 0,
             held: None,
@@ -652,9 +686,9 @@ impl Receiver {
         }
     }
 
-    /// 01's paragraph "In bounds", the receiver's part; the width is an agreed one.
+    /// 01's paragraph "In bounds", the receiver's part; width and limit are good.
     fn in_bounds(&self) -> bool {
-        let most = self.width.decoded_most();
+        let most = self.agreed.decoded_most();
         self.decoded <= most
             && self.held.is_none_or(|count| count <= most)
             && self.left <= FULL_BLOCK
@@ -670,8 +704,8 @@ impl Receiver {
     }
 
     /// What must be as in a fresh receiver while no frame is begun.
-    // Reading: the settings are as given at opening, so they are not tested either; nor is the
-    // width, once it is an agreed one.
+    // Reading: the settings are as given at opening, so they are not tested either; nor are width
+    // and limit, once they are good.
     fn fresh_outside(&self) -> bool {
         self.decoded == 0
             && self.left == 0
@@ -697,10 +731,10 @@ impl Receiver {
 
     /// The receiver call: one octet, lent both areas.
     fn call(&mut self, areas: &mut Areas, octet: u8) -> Answer {
-        if !self.width.agreed() {
+        if !self.agreed.good() {
             return Answer::Refused(refusal::STATE);
         }
-        let least = self.width.receiver_area();
+        let least = self.agreed.receiver_area();
         if areas.iter().any(|area| area.len() < least) {
             return Answer::Refused(refusal::AREA_SHORT);
         }
@@ -781,7 +815,7 @@ impl Receiver {
     /// Step 3: a data octet, and with the last the block's zeros.
     #[inline]
     fn take_data(&mut self, areas: &mut Areas, octet: u8) {
-        if self.decoded + 1 > self.width.decoded_most() {
+        if self.decoded + 1 > self.agreed.decoded_most() {
             return self.refuse(refusal::TOO_MUCH);
         }
         areas[self.work][self.decoded] = octet;
@@ -796,7 +830,7 @@ impl Receiver {
     // Reading: a last data octet that fits is written even if its block's zeros do not.
     fn write_zeros(&mut self, areas: &mut Areas) {
         let end = self.decoded + self.zeros;
-        if end > self.width.decoded_most() {
+        if end > self.agreed.decoded_most() {
             return self.refuse(refusal::TOO_MUCH);
         }
         areas[self.work][self.decoded..end].fill(0);
@@ -812,8 +846,8 @@ impl Receiver {
         self.last = LastBlock::None;
     }
 
-    /// Step 5: the flag gives the report, and all but settings, width, turn and held count goes
-    /// fresh.
+    /// Step 5: the flag gives the report, and all but settings, width, limit, turn and held count
+    /// goes fresh.
     fn take_flag(&mut self, areas: &Areas) -> Answer {
         let report = if self.in_frame {
             self.report(areas)
@@ -824,7 +858,7 @@ impl Receiver {
         *self = Receiver {
             work: self.work,
             held: self.held,
-            ..Receiver::fresh(self.settings, self.width)
+            ..Receiver::fresh(self.settings, self.agreed)
         };
         report
     }
@@ -865,16 +899,16 @@ impl Receiver {
     /// Step 5: the phantom goes, and what is left is a frame.
     fn report_whole(&self, areas: &Areas) -> Answer {
         let length = self.decoded.saturating_sub(1);
-        if length < self.width.frame_shortest() {
+        if length < self.agreed.frame_shortest() {
             return Answer::Refused(refusal::TOO_LITTLE);
         }
-        let check = self.width.check();
+        let check = self.agreed.check();
         if check.register_over(&areas[self.work][..length]) != check.good {
             return Answer::Refused(refusal::FCS);
         }
         Answer::Packet {
             area: self.work,
-            length: length - self.width.fcs_length(),
+            length: length - self.agreed.fcs_length(),
         }
     }
 
@@ -1046,14 +1080,14 @@ impl<W: Write> Lines<W> {
 // Capture and count
 // ---------------------------------------------------------------------------------------------
 
-/// Runs a fresh receiver, both settings on and 16 bits, over all of the input; `note` gets each
-/// report.
+/// Runs a fresh receiver, both settings on, 16 bits and packets to 2,048, over all of the input;
+/// `note` gets each report.
 fn receive_all<N>(input: &mut impl Read, mut note: N) -> io::Result<()>
 where
     N: FnMut(Answer, &Areas) -> io::Result<()>,
 {
-    let mut receiver = Receiver::fresh(Settings::BOTH, Width::SHORT);
-    let mut first = vec![0; receiver.width.receiver_area()];
+    let mut receiver = Receiver::fresh(Settings::BOTH, Agreed::BASE);
+    let mut first = vec![0; receiver.agreed.receiver_area()];
     let mut second = first.clone();
     let mut areas: Areas = [&mut first, &mut second];
     let mut piece = vec![0; 1 << 18];
@@ -1113,13 +1147,13 @@ const FIRST: usize = 2;
 const SECOND: usize = 3;
 const OUT: usize = 4;
 const AREAS: usize = 5;
-/// Lent at the start: enough for 16 bits.
+/// Lent at the start: enough for 16 bits and packets to 2,048.
 const LENT: [usize; AREAS] = [2_050, 2_050, 2_051, 2_051, 2_051];
 
 /// A command with all of its operands.
 enum Command<'a> {
-    OpenSender(Settings, Width),
-    OpenReceiver(Settings, Width),
+    OpenSender(Settings, Agreed),
+    OpenReceiver(Settings, Agreed),
     Load(LaneName, &'a [u8]),
     Next(usize),
     Receive(&'a [u8]),
@@ -1150,8 +1184,8 @@ impl<'a> Script<'a> {
     /// The next command; None when it is unknown or cut short.
     fn command(&mut self) -> Option<Command<'a>> {
         Some(match self.octet()? {
-            b'o' => Command::OpenSender(Settings(self.octet()?), Width(self.octet()?)),
-            b'O' => Command::OpenReceiver(Settings(self.octet()?), Width(self.octet()?)),
+            b'o' => Command::OpenSender(Settings(self.octet()?), self.agreed()?),
+            b'O' => Command::OpenReceiver(Settings(self.octet()?), self.agreed()?),
             b'l' => Command::Load(LaneName::Low, self.octets()?),
             b'h' => Command::Load(LaneName::High, self.octets()?),
             b'n' => Command::Next(self.number()?),
@@ -1203,15 +1237,28 @@ impl<'a> Script<'a> {
         let count = self.number()?;
         self.take(count)
     }
+
+    /// The operands of an opening behind the settings octet.
+    fn agreed(&mut self) -> Option<Agreed> {
+        Some(agreed_of(self.octet()?.into(), self.number()?))
+    }
 }
 
-/// The eleven numbers of `s`.
-fn sender_of(numbers: [usize; 11]) -> Sender {
-    let [settings, low, low_at, high, high_at, left, zeros, line, suspended, cut_due, width] =
-        numbers;
+/// Width and limit from two numbers: the width by its remainder, the limit as it is.
+fn agreed_of(width: usize, limit: usize) -> Agreed {
+    Agreed {
+        width: (width % 256) as u8,
+        limit: limit as u16,
+    }
+}
+
+/// The twelve numbers of `s`.
+fn sender_of(numbers: [usize; 12]) -> Sender {
+    let [settings, low, low_at, high, high_at, left, zeros, ..] = numbers;
+    let [.., line, suspended, cut_due, width, limit] = numbers;
     Sender {
         settings: Settings((settings % 256) as u8),
-        width: Width((width % 256) as u8),
+        agreed: agreed_of(width, limit),
         low: Lane {
             length: low,
             position: low_at,
@@ -1228,7 +1275,7 @@ fn sender_of(numbers: [usize; 11]) -> Sender {
     }
 }
 
-fn sender_numbers(sender: &Sender) -> [usize; 11] {
+fn sender_numbers(sender: &Sender) -> [usize; 12] {
     [
         usize::from(sender.settings.0),
         sender.low.length,
@@ -1244,17 +1291,18 @@ fn sender_numbers(sender: &Sender) -> [usize; 11] {
         },
         usize::from(sender.suspended),
         usize::from(sender.cut_due),
-        usize::from(sender.width.0),
+        usize::from(sender.agreed.width),
+        usize::from(sender.agreed.limit),
     ]
 }
 
-/// The eleven numbers of `t`.
-fn receiver_of(numbers: [usize; 11]) -> Receiver {
-    let [settings, work, decoded, held, left, zeros, last, in_frame, resumed, remembered, width] =
-        numbers;
+/// The twelve numbers of `t`.
+fn receiver_of(numbers: [usize; 12]) -> Receiver {
+    let [settings, work, decoded, held, left, zeros, last, ..] = numbers;
+    let [.., in_frame, resumed, remembered, width, limit] = numbers;
     Receiver {
         settings: Settings((settings % 256) as u8),
-        width: Width((width % 256) as u8),
+        agreed: agreed_of(width, limit),
         work: work % 2,
         decoded,
         held: held.checked_sub(1),
@@ -1267,7 +1315,7 @@ fn receiver_of(numbers: [usize; 11]) -> Receiver {
     }
 }
 
-fn receiver_numbers(receiver: &Receiver) -> [usize; 11] {
+fn receiver_numbers(receiver: &Receiver) -> [usize; 12] {
     [
         usize::from(receiver.settings.0),
         receiver.work,
@@ -1283,7 +1331,8 @@ fn receiver_numbers(receiver: &Receiver) -> [usize; 11] {
         usize::from(receiver.in_frame),
         usize::from(receiver.resumed),
         receiver.refusal.map_or(0, usize::from),
-        usize::from(receiver.width.0),
+        usize::from(receiver.agreed.width),
+        usize::from(receiver.agreed.limit),
     ]
 }
 
@@ -1305,8 +1354,8 @@ struct Bench<W: Write> {
 impl<W: Write> Bench<W> {
     fn new(output: W) -> Bench<W> {
         Bench {
-            sender: Sender::fresh(Settings(0), Width::SHORT),
-            receiver: Receiver::fresh(Settings(0), Width::SHORT),
+            sender: Sender::fresh(Settings(0), Agreed::BASE),
+            receiver: Receiver::fresh(Settings(0), Agreed::BASE),
             areas: [END_AREA, END_AREA, END_AREA, END_AREA, OUT_AREA].map(|whole| vec![0; whole]),
             lengths: LENT,
             lines: Lines::new(output),
@@ -1329,11 +1378,11 @@ impl<W: Write> Bench<W> {
 
     fn carry_out(&mut self, command: Command) -> io::Result<()> {
         match command {
-            Command::OpenSender(settings, width) => match Sender::open(settings, width) {
+            Command::OpenSender(settings, agreed) => match Sender::open(settings, agreed) {
                 Ok(sender) => self.sender = sender,
                 Err(number) => self.lines.refused(number)?,
             },
-            Command::OpenReceiver(settings, width) => match Receiver::open(settings, width) {
+            Command::OpenReceiver(settings, agreed) => match Receiver::open(settings, agreed) {
                 Ok(receiver) => self.receiver = receiver,
                 Err(number) => self.lines.refused(number)?,
             },

@@ -4,9 +4,10 @@
     python3 octets.py --library PATH [--cases N] [--seed S]
 
 A case is 64 octets, two areas, and some calls on them. The octets spell a state, in bounds or not, or none, with a
-width of 16 bits, of 32 or a wrong one. Of each call the answer, all 64 octets, both areas and what lies around them
-must be what the model answers and leaves, whose numbers are packed and unpacked here. Prints one line, and exits 1 at
-the first difference, or if a run of full size did not see every answer of every call, at either width.
+width of 16 bits, of 32 or a wrong one, and any limit. Of each call the answer, all 64 octets, both areas and what lies
+around them must be what the model answers and leaves, whose numbers are packed and unpacked here. Prints one line, and
+exits 1 at the first difference, or if a run of full size did not see every answer of every call, at either width, and
+most of them with a limit of 16,384.
 """
 import argparse
 import collections
@@ -17,14 +18,14 @@ import subprocess
 import sys
 import tempfile
 
-from compare import (FLAG, LENT, SHOW_STATES, WIDTH, WIDTHS, build_model, fcs, fill, hand_receiver, hand_sender, lend,
-                     load_high, load_low, next_octets, open_receiver, open_sender, receive, show, wrong_width)
+from compare import (FLAG, LIMIT, LIMITS, SHOW_STATES, START, WIDTH, WIDTHS, Agreed, build_model, encoded, fcs, fill,
+                     hand_receiver, hand_sender, lend, load_high, load_low, next_octets, open_receiver, open_sender, receive,
+                     show, within, wrong_limit, wrong_width)
 
 FULL = 20_000       # cases of a run of full size
 BATCH = 500         # cases that the model is asked in one run
 STATE = 64
-SENDER_AREA, RECEIVER_AREA = ({width: LENT[width][place] for width in WIDTHS} for place in (0, 2))
-LONGEST_AREA, LONGEST_LINE = 4095, 4000
+LONGEST_AREA, LONGEST_LINE = 18500, 16500
 GUARD = 32          # octets behind each area, and on both sides of the state, that nobody may write
 QUIET, PACKET, HELD, REFUSED, DONE, OCTET, IDLE = range(7)
 
@@ -38,25 +39,24 @@ class ReceiverOctets:
     20 data left, 21 zeros due, 22 last block, 23 in a frame, 24 resumed, 25 remembered refusal."""
     layout = struct.Struct("<BBHBBIBHBHIBBBBBB")
     bounded = {10: 1, 13: 1, 22: 2, 23: 1, 24: 1}  # places, and the largest value there that spells something
-    largest = (255, 1, 65535, 65536, 255, 255, 2, 1, 1, 255, 255)  # of each number, as far as its field goes
+    largest = (255, 1, 65535, 65536, 255, 255, 2, 1, 1, 255, 255, 65535)  # of each number, as far as its field goes
 
     @classmethod
     def pack(cls, numbers, rng=None):
         """The octets of a state; with rng, any in the fields that are not looked at."""
-        settings, work, decoded, held, left, zeros, last, in_frame, resumed, refusal, width = numbers
-        limit, mode, plain, register, count = (
-            (2048, 0, 0, 0, 0) if rng is None else
-            (rng.randrange(65536), rng.randrange(256), rng.getrandbits(32), rng.getrandbits(32),
-             rng.choice((1, 2051, 2052, 2053, 2054, 65535))))
+        settings, work, decoded, held, left, zeros, last, in_frame, resumed, refusal, width, limit = numbers
+        mode, plain, register, count = (
+            (0, 0, 0, 0) if rng is None else
+            (rng.randrange(256), rng.getrandbits(32), rng.getrandbits(32), rng.choice((1, 2051, 2052, 2053, 2054, 65535))))
         return cls.layout.pack(1, width, limit, settings, mode, plain, work, decoded, held > 0,
                                held - 1 if held else count, register, left, zeros, last, in_frame, resumed, refusal)
 
     @classmethod
     def unpack(cls, octets):
-        (_, width, _, settings, _, _, work, decoded, something, count, _, left, zeros, last, in_frame, resumed,
+        (_, width, limit, settings, _, _, work, decoded, something, count, _, left, zeros, last, in_frame, resumed,
          refusal) = cls.layout.unpack(octets[:cls.layout.size])
         return [settings, work, decoded, count + 1 if something else 0, left, zeros, last, in_frame, resumed, refusal,
-                width]
+                width, limit]
 
 
 class SenderOctets:
@@ -64,25 +64,30 @@ class SenderOctets:
     position, 12-13 high length, 14-15 high position, 16 data left, 17 zeros due, 18-37 the dispatcher's."""
     layout = struct.Struct("<BBHBBBBHHHHBB20s")
     bounded = {5: 2, 6: 1, 7: 1}
-    largest = (255, 65535, 65535, 65535, 65535, 255, 255, 2, 1, 1, 255)
+    largest = (255, 65535, 65535, 65535, 65535, 255, 255, 2, 1, 1, 255, 65535)
 
     @classmethod
     def pack(cls, numbers, rng=None):
-        settings, low, low_at, high, high_at, left, zeros, lane, suspended, cut_due, width = numbers
-        limit, dispatcher = (2048, bytes(20)) if rng is None else (rng.randrange(65536), rng.randbytes(20))
+        settings, low, low_at, high, high_at, left, zeros, lane, suspended, cut_due, width, limit = numbers
+        dispatcher = bytes(20) if rng is None else rng.randbytes(20)
         return cls.layout.pack(1, width, limit, settings, lane, suspended, cut_due, low, low_at, high, high_at, left,
                                zeros, dispatcher)
 
     @classmethod
     def unpack(cls, octets):
-        (_, width, _, settings, lane, suspended, cut_due, low, low_at, high, high_at, left, zeros,
+        (_, width, limit, settings, lane, suspended, cut_due, low, low_at, high, high_at, left, zeros,
          _) = cls.layout.unpack(octets[:cls.layout.size])
-        return [settings, low, low_at, high, high_at, left, zeros, lane, suspended, cut_due, width]
+        return [settings, low, low_at, high, high_at, left, zeros, lane, suspended, cut_due, width, limit]
 
 
 def spells(kind, octets):
-    """Whether octets spell a state, with any width."""
+    """Whether octets spell a state, with any width and limit."""
     return octets[0] == 1 and all(octets[at] <= most for at, most in kind.bounded.items())
+
+
+def agreed_in(octets):
+    """The width and the limit of octets, also of such that spell no state."""
+    return Agreed(*struct.unpack("<BH", octets[1:4]))
 
 
 # ------------------------------------------------------------------------------------------------
@@ -91,15 +96,27 @@ def spells(kind, octets):
 
 CODES = bytes.fromhex("00 01 02 31 7E CF D0 D1 D2 D3 DF E0 FE FF")
 FEW = bytes(b"\0\0\0\1\x7e\xff"[octet % 6] for octet in range(256))
-EDGES = (0, 1, 2, 3, 4, 5, 6, 7, 10, 11, 206, 207, 208, 255, 256, *range(2048, 2055), 65535, 65536)
+EDGES = (0, 1, 2, 3, 4, 5, 6, 7, 10, 11, 206, 207, 208, 255, 256, 2048, 2050, 2051, 16384, 16385, 65535, 65536)
 
 
-def sender_numbers(rng, width):
+def some_agreed(rng):
+    """A small limit most often; seldom 16,384, since its octets are many."""
+    return Agreed(rng.choice(WIDTHS), rng.choice((2, 2, 3, 3, *[rng.randint(2, 20)] * 9, rng.randint(21, 300),
+                                                  rng.randint(200, 210), *[2048] * 7, rng.randint(21, 16384), 16384, 16384)))
+
+
+def made_good(rng, agreed):
+    """A wrong width or limit replaced, to choose octets by."""
+    return Agreed(agreed.width if agreed.width in WIDTHS else rng.choice(WIDTHS),
+                  agreed.limit if agreed.limit in LIMITS else 20)
+
+
+def sender_numbers(rng, agreed):
     """A sender in bounds."""
     lanes = []
-    least, most = 2 + width // 8, 2048 + width // 8
+    least, most = agreed.shortest, agreed.longest
     for _ in range(2):
-        length = rng.choice((0, 0, least, least + 1, 33, 210, most, rng.randint(least, most)))
+        length = min(most, rng.choice((0, 0, least, least + 1, 33, 210, most, rng.randint(least, most))))
         lanes += length, rng.choice((0, 0, length, length + 1, rng.randint(0, length + 1)))
     lane = rng.choice([0] + [1] * 3 * (lanes[0] > 0) + [2] * 2 * (lanes[2] > 0))
     left = zeros = 0
@@ -109,32 +126,40 @@ def sender_numbers(rng, width):
         zeros = min(room - left, rng.randrange(3)) if left else 0
     suspended = int(lanes[0] > 0 and lane != 1 and rng.random() < 0.5)
     cut_due = int(lane == 1 and left == 0 and rng.random() < 0.3)
-    return [rng.choice((3, 3, 3, 2, 1, 0, rng.randrange(256))), *lanes, left, zeros, lane, suspended, cut_due, width]
+    return [rng.choice((3, 3, 3, 2, 1, 0, rng.randrange(256))), *lanes, left, zeros, lane, suspended, cut_due, *agreed]
 
 
-def receiver_numbers(rng, width):
+def receiver_numbers(rng, agreed):
     """A receiver in bounds."""
-    settings, most = rng.choice((3, 3, 3, 3, 2, 1, 0, rng.randrange(256))), 2049 + width // 8
-    work, held = rng.randrange(2), rng.choice((0, 0, 1, 2, 9, most, most + 1, rng.randint(0, most + 1)))
+    settings, most = rng.choice((3, 3, 3, 3, 2, 1, 0, rng.randrange(256))), agreed.most
+    work, held = rng.randrange(2), min(most + 1, rng.choice((0, 0, 1, 2, 9, most, most + 1, rng.randint(0, most + 1))))
     if rng.random() < 0.3:
-        return [settings, work, 0, held, 0, 0, 0, 0, 0, 0, width]
-    decoded = rng.choice((0, 0, 1, 4, 5, 6, 7, 2040, *range(most - 3, most + 1), rng.randint(0, most)))
+        return [settings, work, 0, held, 0, 0, 0, 0, 0, 0, *agreed]
+    decoded = within(0, rng.choice((0, 0, 1, 4, 5, 6, 7, most - 11, *range(most - 3, most + 1), rng.randint(0, most))), most)
     left, zeros, last = rng.choice((0, 0, 0, 1, 2, 207, rng.randint(0, 207))), rng.randrange(3), rng.randrange(3)
     refusal = rng.choice((0, 0, 0, rng.randint(5, 10)))
     resumed = 1 if refusal == 0 and last == 0 else rng.randrange(2)
     if refusal == 0 and last == 2 and left == 0:
         decoded = max(decoded, 1)
-    return [settings, work, decoded, held, left, zeros, last, 1, resumed, refusal, width]
+    return [settings, work, decoded, held, left, zeros, last, 1, resumed, refusal, *agreed]
 
 
 def disturbed(rng, kind, numbers):
     """One number or two moved by one or put to an edge."""
-    numbers = list(numbers)
+    numbers, limit = list(numbers), numbers[LIMIT]
     for _ in range(rng.choice((1, 1, 2))):
-        at = rng.randrange(1, 11)
-        numbers[at] = rng.choice((numbers[at] - 1, numbers[at] + 1, rng.choice(EDGES), rng.choice(EDGES)))
-        numbers[at] = min(kind.largest[at], max(0, numbers[at]))
+        at = rng.randrange(1, 12)
+        edges = (*EDGES, *range(limit, limit + 8))
+        numbers[at] = rng.choice((numbers[at] - 1, numbers[at] + 1, rng.choice(edges), rng.choice(edges)))
+        numbers[at] = within(0, numbers[at], kind.largest[at])
     return numbers
+
+
+def wrong_agreed(rng, agreed):
+    """A wrong width, a limit out of range, or both; seldom the other width, or another limit."""
+    width, limit = wrong_width(rng), wrong_limit(rng)
+    return rng.choice(((width, agreed.limit), (width, agreed.limit), (agreed.width, limit), (agreed.width, limit),
+                       (width, limit), (width, limit), (48 - agreed.width, agreed.limit), some_agreed(rng)))
 
 
 def spoiled(rng, kind, octets):
@@ -154,7 +179,7 @@ def spoiled(rng, kind, octets):
 
 
 def area_length(rng, least):
-    return rng.choice((least,) * 12 + (least + 1, rng.randint(least, LONGEST_AREA), LONGEST_AREA, least - 1,
+    return rng.choice((least,) * 12 + (least + 1, least + rng.randrange(40), least + rng.randrange(2000), least - 1,
                                        rng.choice((0, 1, least - 2, rng.randrange(least)))))
 
 
@@ -178,42 +203,31 @@ def content(rng, length):
     return b"".join(parts)[:length]
 
 
-def encoded(frame):
-    """A frame as code blocks without the codes of ZXE, and with 00 for 7E."""
-    rest, out = frame + b"\0", b""
-    while rest:
-        count = rest.index(0)
-        if count >= 207:
-            out, rest = out + b"\xd0" + rest[:207], rest[207:]
-        else:
-            out, rest = out + bytes((count + 1,)) + rest[:count], rest[count + 1:]
-    return out.replace(FLAG, b"\0")
-
-
-def frame(rng, width, lengths=(2, 3, 9, 40, 300, 2047, 2048)):
+def frame(rng, agreed, lengths=None):
     """A packet with its FCS, seldom a packet of a wrong length, a wrong FCS or one of another width."""
-    packet = content(rng, rng.choice((*lengths, *lengths, 0, 1)))
-    width = width if width in WIDTHS and rng.random() < 0.95 else rng.choice(WIDTHS)
-    check = fcs(packet, width)
+    limit = agreed.limit
+    lengths = [min(limit, length) for length in lengths or (2, 3, 9, 40, 300, limit - 1, limit)]
+    packet = content(rng, rng.choice((*lengths, *lengths, 0, 1, limit + 1)))
+    check = fcs(packet, agreed.width if rng.random() < 0.95 else rng.choice(WIDTHS))
     return packet + (check if rng.random() < 0.8 else check[::-1])
 
 
-def line_piece(rng, width):
+def line_piece(rng, agreed):
     way = rng.randrange(12)
     if way < 3:
         return FLAG
     if way < 5:
-        return encoded(frame(rng, width)) + FLAG
+        return encoded(frame(rng, agreed), runs=False) + FLAG
     if way == 5:
-        rest = encoded(frame(rng, width, (2, 9)))[rng.randrange(3):]
+        rest = encoded(frame(rng, agreed, (2, 9)), runs=False)[rng.randrange(3):]
         return b"\xd1" + rng.choice((b"", rest, rng.randbytes(3))) + FLAG
     if way == 6:
         return bytes(rng.choices(CODES, k=rng.randint(1, 12)))
     if way == 7:
         return b"\xd0" + b"1" * rng.randint(205, 208) + rng.choice((b"", b"\1", FLAG))
     if way == 8:
-        return b"\xdf" * rng.choice((136, rng.randint(134, 138))) + rng.choice(
-            (b"\xda", b"\xdb", b"\xdc", b"\xdd", b"\xde", b"\xe0", b"\xdc\2\x31", b"\2\x31", FLAG))
+        return encoded(bytes(max(0, agreed.most + rng.choice((-4, -3, -2, -1, 0, 1))))) + rng.choice(
+            (b"", b"", b"\xe0", b"\2\x31", FLAG, FLAG))
     if way == 9:
         return b"\xff" + rng.randbytes(rng.randrange(4)) + FLAG
     return rng.randbytes(rng.choice((1, 2, 30, 300)))
@@ -230,8 +244,9 @@ class Stretch(ctypes.Structure):
 def load_library(path):
     library = ctypes.CDLL(path)
     octets, length, octet, number = ctypes.c_void_p, ctypes.c_size_t, ctypes.c_uint8, ctypes.c_uint32
+    limit = ctypes.c_uint16
     for name, result, *arguments in (
-            ("receiver_open", number, octets, octet, octet), ("sender_open", number, octets, octet, octet),
+            ("receiver_open", number, octets, octet, octet, limit), ("sender_open", number, octets, octet, octet, limit),
             ("receive", number, octets, octet, octets, length, octets, length),
             ("read_on", Stretch, octets, octets, length, octets, length, octets, length),
             ("load_low", number, octets, octets, length, octets, length),
@@ -278,28 +293,28 @@ class Bench:
         rng = self.rng
         self.receiving = rng.random() < 0.5
         self.kind = ReceiverOctets if self.receiving else SenderOctets
-        width, wrong = rng.choice(WIDTHS), rng.random() < 0.1
-        least = (RECEIVER_AREA if self.receiving else SENDER_AREA)[width]
+        agreed, wrong = some_agreed(rng), rng.random() < 0.2
+        base = 2 if self.receiving else 0
+        least = agreed.areas[base]
         lengths = [rng.choice((0, 1, least - 1, least, least)) if wrong else area_length(rng, least) for _ in range(2)]
         areas = [content(rng, length) for length in lengths]
-        numbers = (receiver_numbers if self.receiving else sender_numbers)(rng, width)
+        numbers = (receiver_numbers if self.receiving else sender_numbers)(rng, agreed)
         first = None
         if self.receiving and rng.random() < 0.3:
-            numbers, first = (self.frame_decoded if rng.random() < 0.7 else self.frame_held)(areas, width)
+            numbers, first = (self.frame_decoded if rng.random() < 0.7 else self.frame_held)(areas, agreed)
         if rng.random() < 0.25:
             numbers = disturbed(rng, self.kind, numbers)
         if wrong:
-            numbers[WIDTH] = rng.choice((wrong_width(rng), wrong_width(rng), 48 - width))
+            numbers[WIDTH:] = wrong_agreed(rng, agreed)
         octets = self.kind.pack(numbers, rng if rng.random() < 0.6 else None)
         octets += rng.randbytes(STATE - len(octets))
-        if rng.random() < 0.15:
+        if rng.random() < (0.3 if wrong else 0.13):
             octets = spoiled(rng, self.kind, octets)
         shift = GUARD + rng.randrange(8)
         self.state.put(rng, rng.randbytes(shift) + octets, shift)
         for memory, area in zip(self.areas, areas):
             memory.put(rng, area)
-        base = 2 if self.receiving else 0
-        lengths = [*LENT[16]]
+        lengths = [*START.areas]
         lengths[base:base + 2] = map(len, areas)
         commands = lend(lengths) + fill(base, 0, areas[0]) + fill(base + 1, 0, areas[1])
         for _ in range(rng.choice((1, 1, 1, 2, 4))):
@@ -309,23 +324,23 @@ class Bench:
                 commands = b""
             first = None
 
-    def frame_decoded(self, areas, width):
+    def frame_decoded(self, areas, agreed):
         """A whole frame in the work area, its flag to come."""
         rng, work = self.rng, self.rng.randrange(2)
-        octets = frame(rng, width) + b"\0"
+        octets = frame(rng, agreed) + b"\0"
         areas[work] = octets + areas[work][len(octets):] if len(areas[work]) >= len(octets) else areas[work]
-        numbers = [rng.choice((3, 2, 1, 0)), work, len(octets), rng.choice((0, 1, 9, 2050 + width // 8)), 0, 0, 2, 1,
-                   rng.randrange(2), 0, width]
+        numbers = [rng.choice((3, 2, 1, 0)), work, len(octets), rng.choice((0, 1, 5, agreed.most + 1)), 0, 0, 2, 1,
+                   rng.randrange(2), 0, *agreed]
         return numbers, FLAG
 
-    def frame_held(self, areas, width):
+    def frame_held(self, areas, agreed):
         """The beginning of a frame in the area that holds, its rest to come."""
         rng, work = self.rng, self.rng.randrange(2)
-        octets = frame(rng, width, (2, 9, 100))
+        octets = frame(rng, agreed, (2, 9, 100))
         cut = rng.randint(0, len(octets))
         areas[1 - work] = octets[:cut] + areas[1 - work][cut:] if len(areas[1 - work]) >= cut else areas[1 - work]
-        numbers = [rng.choice((3, 2, 3, 2, 1)), work, 0, cut + 1, 0, 0, 0, 0, 0, 0, width]
-        return numbers, b"\xd1" + encoded(octets[cut:]) + FLAG
+        numbers = [rng.choice((3, 2, 3, 2, 1)), work, 0, cut + 1, 0, 0, 0, 0, 0, 0, *agreed]
+        return numbers, b"\xd1" + encoded(octets[cut:], runs=False) + FLAG
 
     def call(self, octets):
         """Makes a call, with these octets if there are any."""
@@ -334,9 +349,10 @@ class Bench:
             return self.open()
         if self.receiving:
             if octets is None or len(octets) > 1 and rng.random() < 0.2:
-                width = self.spelt()[1]
-                return self.receive() if rng.random() < 0.5 else self.read_on(
-                    b"".join(line_piece(rng, width) for _ in range(rng.choice((0, 1, 1, 2, 4)))))
+                if rng.random() < 0.5:
+                    return self.receive()
+                agreed = made_good(rng, agreed_in(self.spelt()))
+                return self.read_on(b"".join(line_piece(rng, agreed) for _ in range(rng.choice((0, 1, 1, 2, 4))))[:60000])
             return self.receive(octets) if len(octets) == 1 and rng.random() < 0.5 else self.read_on(octets)
         return rng.choice((self.load, self.next, self.write_on))()
 
@@ -371,11 +387,12 @@ class Bench:
             show(2 * self.receiving + area, 0, self.areas[area].length) for area in areas)
 
     def open(self):
-        settings, width = self.rng.randrange(256), self.rng.choice((*WIDTHS, wrong_width(self.rng)))
+        rng, agreed = self.rng, some_agreed(self.rng)
+        settings, agreed = rng.randrange(256), rng.choice((agreed, wrong_agreed(rng, agreed)))
         name, command = ("receiver_open", open_receiver) if self.receiving else ("sender_open", open_sender)
-        answer = getattr(self.library, "kuta_" + name)(self.state.lent, settings, width)
-        made = self.made(name, (settings, width), answer, 0)
-        return made, command(settings, width) + SHOW_STATES
+        answer = getattr(self.library, "kuta_" + name)(self.state.lent, settings, *agreed)
+        made = self.made(name, (settings, *agreed), answer, 0)
+        return made, command(settings, *agreed) + SHOW_STATES
 
     def receive(self, octets=None):
         rng = self.rng
@@ -392,7 +409,8 @@ class Bench:
 
     def load(self):
         rng, lane = self.rng, self.rng.randrange(2)
-        packet = content(rng, rng.choice((0, 1, 2, 3, 30, 207, 2047, 2048, 2048, 2049, rng.randint(2, 2048))))
+        limit = made_good(rng, agreed_in(self.spelt())).limit
+        packet = content(rng, rng.choice((0, 1, 2, 3, 30, 207, limit - 1, limit, limit, limit + 1, rng.randint(2, limit))))
         area, name = self.areas[lane], ("load_low", "load_high")[lane]
         load, given = getattr(self.library, "kuta_" + name), packet or rng.choice((None, packet))
         answer = load(self.state.lent, given, len(packet), area.lent, area.length)
@@ -405,7 +423,8 @@ class Bench:
 
     def write_on(self):
         rng = self.rng
-        room = rng.choice((0, 1, 2, 3, 40, 300, 2061, LONGEST_LINE, LONGEST_LINE))
+        longest = made_good(rng, agreed_in(self.spelt())).longest
+        room = rng.choice((0, 1, 2, 3, 40, 300, longest + 2, longest + longest // 207 + 9, longest + longest // 207 + 9))
         self.line.put(rng, rng.randbytes(room))
         got = self.library.kuta_write_on(self.state.lent, *self.lent(), self.line.lent, room)
         made = self.made("write_on", room, got.answer, got.octets, (self.line.whole, self.line.octets()))
@@ -449,8 +468,7 @@ def label(call, no_state):
     """What an answer is called in the line that is printed."""
     kind, mark, value = call.answer >> 24, call.answer >> 16 & 1, call.answer & 0xFFFF
     if kind == REFUSED:
-        short = not call.name.endswith("open") and width_of(call) == 0 and shortest(call) < SENDER_AREA[16]
-        return f"R{value}" + "-short" * short + "-no-state" * no_state
+        return f"R{value}" + "-short" * too_short(call) + "-no-state" * no_state
     if call.name == "write_on" and kind == OCTET:
         return "flag" if value == FLAG[0] else "room"
     if call.name in ("read_on", "write_on") and kind == QUIET and call.count == 0:
@@ -458,10 +476,29 @@ def label(call, no_state):
     return ("quiet", "P", "H", "", "done", "octet", "idle")[kind] + (str(mark) if kind in (PACKET, HELD) else "")
 
 
-def width_of(call):
-    """The width that a call is handed, by the 64 octets or to open with: 16, 32, or 0 for any other."""
-    width = call.operand[1] if call.name.endswith("open") else call.spelt[1]
-    return width if width in WIDTHS else 0
+def agreed_of(call):
+    """The width and the limit that a call is handed, by the 64 octets or to open with."""
+    return Agreed(*call.operand[1:]) if call.name.endswith("open") else agreed_in(call.spelt)
+
+
+def words(agreed):
+    if agreed.good:
+        return f"{agreed.width} bits"
+    wrong = [what for what, good in (("width", agreed.width in WIDTHS), ("limit", agreed.limit in LIMITS)) if not good]
+    return f"wrong {' and '.join(wrong)}"
+
+
+def too_short(call):
+    """Whether a wrong width or limit comes with an area that is too short for whatever good one stood in its place."""
+    agreed = agreed_of(call)
+    if agreed.good or call.name.endswith("open"):
+        return False
+    return shortest(call) < Agreed(16, agreed.limit if agreed.limit in LIMITS else 2).areas[place_of(call)]
+
+
+def place_of(call):
+    """The place of a call's areas among the four of the driver."""
+    return 2 if call.name in ("receive", "read_on") else 0
 
 
 def shortest(call):
@@ -474,20 +511,24 @@ LOADS = ["done", "R1", "R2", "R2-no-state", "R3", "R3-no-state", "R4"]
 ENDS = ["idle", "R2", "R2-no-state", "R3", "R3-no-state"]
 ANSWERS = {"receive": REPORTS, "read_on": ["nothing", *REPORTS], "load_low": LOADS, "load_high": LOADS,
            "next": ["octet", *ENDS], "write_on": ["nothing", "flag", "room", *ENDS]}
-# At each width; any other width is refused 3, also where an area is too short for either.
+# At each width; any other width, and a limit out of range, is refused 3, also where an area is too short for any.
 WANTED = {(name, f"{width} bits"): answers for name, answers in ANSWERS.items() for width in WIDTHS}
-WANTED |= {(name, "wrong width"): ["R3", "R3-no-state", "R3-short", "R3-short-no-state"] + [
-    "nothing"] * ("nothing" in answers) for name, answers in ANSWERS.items()}
-WANTED |= {(f"{end}_open", about): answers for end in ("receiver", "sender") for about, answers in (
-    ("16 bits", ["done"]), ("32 bits", ["done"]), ("wrong width", ["R3"]))}
+WANTED |= {(name, wrong): ["R3", "R3-no-state", "R3-short", "R3-short-no-state"] + ["nothing"] * ("nothing" in answers)
+           for name, answers in ANSWERS.items() for wrong in ("wrong width", "wrong limit", "wrong width and limit")}
+WANTED |= {(f"{end}_open", about): [answer] for end in ("receiver", "sender") for about, answer in (
+    ("16 bits", "done"), ("32 bits", "done"), ("wrong width", "R3"), ("wrong limit", "R23"), ("wrong width and limit", "R23"))}
+# Of these at least some must be with a limit of 16,384.
+LONGEST = {"receive": ["quiet", "P0", "P1", "H0", "R2", "R3", "R14"], "read_on": ["quiet", "P0", "P1", "R2", "R3", "R10"],
+           "load_low": ["done", "R1", "R2", "R3", "R4"], "load_high": ["done", "R1", "R2", "R3", "R4"],
+           "next": ["octet", "idle", "R2", "R3"], "write_on": ["flag", "room", "idle", "R2", "R3"]}
 
 
 def unasked(call):
     """The answer where the model is not asked: there is no state, or nothing to do."""
     if call.name == "read_on" and not call.operand or call.name == "write_on" and not call.operand:
         return QUIET, 0
-    width = width_of(call)
-    least = (RECEIVER_AREA if call.name in ("receive", "read_on") else SENDER_AREA)[width] if width else 0
+    agreed = agreed_of(call)
+    least = agreed.areas[place_of(call)] if agreed.good else 0
     return REFUSED << 24 | (2 if shortest(call) < least else 3), int(call.name in ("receive", "read_on", "next"))
 
 
@@ -518,7 +559,7 @@ def told(call, lines):
     return (said or [""])[-1], [int(number) for number in states[call.name in ("receive", "read_on", "receiver_open")]]
 
 
-def check(call, asked, lines, seen):
+def check(call, asked, lines, seen, longest):
     """Holds one call against the model, or against the rule where the model is not asked."""
     kind = ReceiverOctets if call.name in ("receive", "read_on", "receiver_open") else SenderOctets
     (before, after), areas = call.state, [area for area, _ in call.areas]
@@ -529,7 +570,7 @@ def check(call, asked, lines, seen):
         if call.name == "read_on":
             must(count <= len(call.operand), "octets read", count, len(call.operand))
             must(answer != QUIET or count == len(call.operand), "octets read", count, len(call.operand))
-        changed = not (answer == IDLE << 24 or answer >> 24 == REFUSED and answer & 0xFFFF < 5)
+        changed = answer != IDLE << 24 and (answer >> 24 != REFUSED or answer & 0xFFFF in range(5, 15))
         if changed:
             octets = kind.pack(numbers)
             wanted = before[:call.at] + octets + before[call.at + len(octets):]
@@ -549,10 +590,13 @@ def check(call, asked, lines, seen):
     if call.line:
         whole, got = call.line
         same("line behind what was written", got[count:], whole[count:])
-    seen[call.name, f"{width_of(call)} bits" if width_of(call) else "wrong width", label(call, not asked)] += 1
+    agreed, answered = agreed_of(call), label(call, not asked)
+    seen[call.name, words(agreed), answered] += 1
+    if agreed.good and agreed.limit == 16384:
+        longest[call.name, answered] += 1
 
 
-def compare(model, bench, cases, seen):
+def compare(model, bench, cases, seen, longest):
     """A batch of cases; the library's calls first, then the model's."""
     calls = [(number, *call) for number in cases for call in bench.case()]
     out = subprocess.run([model, "exercise"], input=b"".join(asked for _, _, asked in calls), stdout=subprocess.PIPE,
@@ -560,7 +604,7 @@ def compare(model, bench, cases, seen):
     lines = iter(out.decode().splitlines())
     for number, call, asked in calls:
         try:
-            check(call, asked, lines, seen)
+            check(call, asked, lines, seen, longest)
         except Different as why:
             operand = call.operand.hex(" ") if isinstance(call.operand, bytes) else call.operand
             print(f"DIFFERENT: case {number}, kuta_{call.name}, operand {operand}, areas of {call.lengths} octets\n"
@@ -579,16 +623,20 @@ def main():
     parser.add_argument("--cases", type=int, default=FULL)
     parser.add_argument("--seed", type=int, default=1)
     asked = parser.parse_args()
-    bench, seen = Bench(load_library(asked.library), random.Random(asked.seed)), collections.Counter()
+    bench = Bench(load_library(asked.library), random.Random(asked.seed))
+    seen, longest = collections.Counter(), collections.Counter()
     with tempfile.TemporaryDirectory() as folder:
         model = build_model(folder)
         for begin in range(0, asked.cases, BATCH):
-            compare(model, bench, range(begin, min(begin + BATCH, asked.cases)), seen)
+            compare(model, bench, range(begin, min(begin + BATCH, asked.cases)), seen, longest)
     wanted = [(*about, answer) for about, answers in WANTED.items() for answer in answers]
     missing = [" ".join(key) for key in wanted if not seen[key]]
+    missing += [f"{name} with 16,384 {answer}" for name, answers in LONGEST.items() for answer in answers
+                if not longest[name, answer]]
     print(f"cases {asked.cases}, calls {sum(seen.values())}, 0 differ; " + "; ".join(
         f"{', '.join(about)}: " + ", ".join(f"{answer} {seen[(*about, answer)]}" for answer in answers)
-        for about, answers in WANTED.items()))
+        for about, answers in WANTED.items()) + "; with 16,384: " + "; ".join(
+        f"{name}: " + ", ".join(f"{answer} {longest[name, answer]}" for answer in answers) for name, answers in LONGEST.items()))
     strange = sorted(set(seen) - set(wanted))
     if strange or missing and asked.cases >= FULL:
         sys.exit(f"not seen: {', '.join(missing) or 'none'}; not known: {strange or 'none'}")

@@ -6,7 +6,7 @@
     tests/captures/NAME.octets      a capture
     tests/captures/NAME.lines       what the capture program prints for it
     tests/captures/NAME.counts      what the count program prints for it
-    tests/scripts/NAME.script       commands for the exercise driver; base and width have the tables below
+    tests/scripts/NAME.script       commands for the exercise driver; base, width and limit have the tables below
     tests/scripts/NAME.answers      what the driver writes for them
     crates/count/stdin, stdout      the capture stale-fragment, and its counts
 
@@ -20,8 +20,8 @@ import random
 import sys
 import tempfile
 
-from compare import (FLAG, HERE, LENT, WHOLE_AREAS, WIDTHS, Programs, build_model, fcs, fill, hand_receiver, hand_sender,
-                     lend, lend_out, load_high, load_low, next_octets, open_receiver, open_sender, packet, receive,
+from compare import (FLAG, HERE, WHOLE_AREAS, WIDTHS, Programs, build_model, fcs, fill, hand_receiver, hand_sender, lend,
+                     lend_out, lent, load_high, load_low, next_octets, open_receiver, open_sender, packet, receive,
                      sent_octets, show, zero_free)
 
 
@@ -227,24 +227,25 @@ CAPTURES = {
 
 
 # ------------------------------------------------------------------------------------------------
-# The table of the script base, 16 bits
+# The table of the script base: 16 bits, packets to 2,048
 # ------------------------------------------------------------------------------------------------
 
 D = b"d"
-DEFAULT_LENGTHS = lend(LENT[16])
+DEFAULT_LENGTHS = lend(lent(16))
 LONG_LENGTHS = lend((20480, 20480, 20480, 20480))
 OUT_AREA = 4
 
 
-def sender(settings=3, low=(0, 0), high=(0, 0), left=0, zeros=0, line=0, suspended=0, cut=0, width=16):
+def sender(settings=3, low=(0, 0), high=(0, 0), left=0, zeros=0, line=0, suspended=0, cut=0, width=16, limit=2048):
     """A sender state; line 0 none, 1 low, 2 high."""
-    return hand_sender((settings, *low, *high, left, zeros, line, suspended, cut, width))
+    return hand_sender((settings, *low, *high, left, zeros, line, suspended, cut, width, limit))
 
 
-def receiver(settings=3, work=0, decoded=0, held=None, left=0, zeros=0, last=0, frame=0, resumed=0, refusal=0, width=16):
+def receiver(settings=3, work=0, decoded=0, held=None, left=0, zeros=0, last=0, frame=0, resumed=0, refusal=0, width=16,
+             limit=2048):
     """A receiver state; held a count or None; last 0 none, 1 D0, 2 other."""
     return hand_receiver((settings, work, decoded, 0 if held is None else held + 1, left, zeros, last, frame,
-                          resumed, refusal, width))
+                          resumed, refusal, width, limit))
 
 
 def show_sender(at=0):
@@ -262,11 +263,11 @@ def fill_all():
 
 
 # --- What stands before the first command
-FRESH = ["S 0 0 0 0 0 0 0 0 0 0 16", "T 0 0 0 0 0 0 0 0 0 0 16"]
+FRESH = ["S 0 0 0 0 0 0 0 0 0 0 16 2048", "T 0 0 0 0 0 0 0 0 0 0 16 2048"]
 
 
 def start():
-    yield "both ends open, settings 0, 16 bits", D, FRESH
+    yield "both ends open, settings 0, 16 bits, packets to 2,048", D, FRESH
     yield ("all areas zeros",
            b"".join(show(area, 0, 3) + show(area, whole - 3, 9) for area, whole in enumerate(WHOLE_AREAS)),
            ["X 00 00 00"] * 10)
@@ -707,17 +708,17 @@ def script_format():
     yield "x of nothing", show(0, 0, 0) + show(4, 40959, 0) + show(0, 65535, 65535), ["X", "X", "X"]
     yield "x, as many as there are", show(0, 20479, 65535) + show(4, 40959, 65535), ["X 70", "X C4"]
     yield ("f of nothing", fill(0, 0, b"") + fill(0, 20480, b"") + fill(9, 0, b"") + show(0, 0, 2), ["X A0 B0"])
-    yield ("numbers too large count as remainders", hand_sender((259, 4, 0, 0, 0, 256, 258, 4, 2, 3, 272))
-           + hand_receiver((515, 2, 5, 65535, 257, 256, 5, 3, 2, 261, 544)) + D,
-           ["S 3 4 0 0 0 0 2 1 0 1 16", "T 3 0 5 65535 1 0 2 1 0 5 32"])
-    yield ("numbers as large as they can be", hand_sender((65535,) * 11) + hand_receiver((65535,) * 11) + D,
-           ["S 255 65535 65535 65535 65535 255 255 0 1 1 255", "T 255 1 65535 65535 255 255 0 1 1 255 255"])
-    yield ("one below", hand_sender((65534,) * 11) + hand_receiver((65534,) * 11) + D,
-           ["S 254 65534 65534 65534 65534 254 254 2 0 0 254", "T 254 0 65534 65534 254 254 2 0 0 254 254"])
+    yield ("numbers too large count as remainders", hand_sender((259, 4, 0, 0, 0, 256, 258, 4, 2, 3, 272, 2048))
+           + hand_receiver((515, 2, 5, 65535, 257, 256, 5, 3, 2, 261, 544, 2048)) + D,
+           ["S 3 4 0 0 0 0 2 1 0 1 16 2048", "T 3 0 5 65535 1 0 2 1 0 5 32 2048"])
+    yield ("numbers as large as they can be", hand_sender((65535,) * 12) + hand_receiver((65535,) * 12) + D,
+           ["S 255 65535 65535 65535 65535 255 255 0 1 1 255 65535", "T 255 1 65535 65535 255 255 0 1 1 255 255 65535"])
+    yield ("one below", hand_sender((65534,) * 12) + hand_receiver((65534,) * 12) + D,
+           ["S 254 65534 65534 65534 65534 254 254 2 0 0 254 65534", "T 254 0 65534 65534 254 254 2 0 0 254 254 65534"])
     yield ("work area 3 is the second",
-           hand_receiver((3, 3, 0, 0, 0, 0, 0, 0, 0, 0, 16)) + receive(hx("E0 03 47 0F 7E")), "P 1 2 00 00")
+           hand_receiver((3, 3, 0, 0, 0, 0, 0, 0, 0, 0, 16, 2048)) + receive(hx("E0 03 47 0F 7E")), "P 1 2 00 00")
     yield ("held 1 is a fragment of no octets",
-           hand_receiver((3, 0, 0, 1, 0, 0, 0, 0, 0, 0, 16)) + receive(hx("05 31 7E")) + D, "H 1 1")
+           hand_receiver((3, 0, 0, 1, 0, 0, 0, 0, 0, 0, 16, 2048)) + receive(hx("05 31 7E")) + D, "H 1 1")
     yield "n of none, r of none", next_octets(0) + receive(b""), []
 
 
@@ -776,7 +777,7 @@ BASE = [
 # The table of the script width: document 02, slip 1
 # ------------------------------------------------------------------------------------------------
 
-WIDE_LENGTHS = lend(LENT[32])
+WIDE_LENGTHS = lend(lent(32))
 NINE = hx("31 32 33 34 35 36 37 38 39")
 WRONG = (0, 1, 8, 15, 17, 24, 31, 33, 48, 64, 128, 144, 160, 254, 255)
 IN_BLOCK = dict(decoded=1, left=2, zeros=1, **IN_OTHER)
@@ -816,24 +817,24 @@ def slip_examples():
 
 def openings():
     yield ("16 and 32", open_sender(1, 16) + open_receiver(2, 32) + D + open_sender(255, 32) + open_receiver(0, 16) + D,
-           ["S 1 0 0 0 0 0 0 0 0 0 16", "T 2 0 0 0 0 0 0 0 0 0 32",
-            "S 255 0 0 0 0 0 0 0 0 0 32", "T 0 0 0 0 0 0 0 0 0 0 16"])
+           ["S 1 0 0 0 0 0 0 0 0 0 16 2048", "T 2 0 0 0 0 0 0 0 0 0 32 2048",
+            "S 255 0 0 0 0 0 0 0 0 0 32 2048", "T 0 0 0 0 0 0 0 0 0 0 16 2048"])
     yield ("a refused opening leaves the end as it was", sender(low=(9, 2), high=(6, 0), left=3, zeros=1, line=1, width=32)
            + receiver(settings=2, work=1, held=7, width=32, **IN_BLOCK) + open_sender(0, 24) + open_receiver(1, 33) + D,
-           ["R 3", "R 3", "S 3 9 2 6 0 3 1 1 0 0 32", "T 2 1 1 8 2 1 2 1 0 0 32"])
+           ["R 3", "R 3", "S 3 9 2 6 0 3 1 1 0 0 32 2048", "T 2 1 1 8 2 1 2 1 0 0 32 2048"])
     yield ("a refused opening leaves a state out of bounds too", sender(low=(3, 9), left=255, width=24)
            + receiver(decoded=9999, refusal=77, width=0) + open_sender(0, 0) + open_receiver(1, 255) + D,
-           ["R 3", "R 3", "S 3 3 9 0 0 255 0 0 0 0 24", "T 3 0 9999 0 0 0 0 0 0 77 0"])
+           ["R 3", "R 3", "S 3 3 9 0 0 255 0 0 0 0 24 2048", "T 3 0 9999 0 0 0 0 0 0 77 0 2048"])
     yield ("and goes on where it was", open_sender(3, 32) + load_low(hx("7E 7E")) + next_octets(3) + open_sender(0, 8)
            + next_octets(6) + open_receiver(3, 32) + receive(hx("07 00 00 BC")) + open_receiver(0, 64)
            + receive(hx("1A D8 47 7E")),
            ["D", *sent(hx("07 00 00")), "R 3", *sent(hx("BC 1A D8 47 7E")), "I", "R 3", "P 0 2 7E 7E"])
     yield ("the lengths lent play no part", lend((0, 0, 0, 0)) + open_sender(3, 32) + open_receiver(3, 16) + D
            + open_sender(3, 17) + open_receiver(3, 15) + WIDE_LENGTHS,
-           ["S 3 0 0 0 0 0 0 0 0 0 32", "T 3 0 0 0 0 0 0 0 0 0 16", "R 3", "R 3"])
+           ["S 3 0 0 0 0 0 0 0 0 0 32 2048", "T 3 0 0 0 0 0 0 0 0 0 16 2048", "R 3", "R 3"])
     yield ("an opening ends what was there", sender(low=(9, 2), high=(6, 0), left=3, zeros=1, line=1, width=24)
            + receiver(work=1, held=7, width=24, **IN_BLOCK) + open_sender(3, 32) + open_receiver(3, 32) + D,
-           ["S 3 0 0 0 0 0 0 0 0 0 32", "T 3 0 0 0 0 0 0 0 0 0 32"])
+           ["S 3 0 0 0 0 0 0 0 0 0 32 2048", "T 3 0 0 0 0 0 0 0 0 0 32 2048"])
     for end in (open_sender, open_receiver):
         yield (f"every width, {end.__name__}", b"".join(end(0, width) for width in range(256)) + end(0, 16),
                ["R 3"] * 254)
@@ -842,11 +843,11 @@ def openings():
 def wrong_widths():
     """A state with a wrong width is refused 3, whatever else is wrong, and stays as it was."""
     for width in WRONG:
-        state = f" {width}"
+        state = f" {width} 2048"
         yield (f"{width}, fresh", sender(width=width) + load_low(TWO) + load_high(TWO) + next_octets(2)
                + receiver(width=width) + receive(hx("05 31 7E")) + D,
                ["R 3"] * 7 + ["S 3" + " 0" * 9 + state, "T 3" + " 0" * 9 + state])
-    for lengths in (LENT[32], LENT[16], (2049, 2049, 2050, 2050), (0, 0, 0, 0), (20480,) * 4):
+    for lengths in (lent(32), lent(16), (2049, 2049, 2050, 2050), (0, 0, 0, 0), (20480,) * 4):
         yield (f"24, areas of {lengths[0]} and {lengths[2]}", lend(lengths) + sender(width=24) + load_low(TWO)
                + load_high(b"") + next_octets(1) + receiver(width=24) + receive(FLAG) + D + show_sender() + show_receiver(),
                "R 3, R 3, R 3, R 3")
@@ -857,24 +858,24 @@ def wrong_widths():
            + receiver(width=65296) + receive(hx("05 31 31 31 31 7E")) + D
            + sender(low=(5, 0), width=272) + next_octets(1) + receiver(width=65312) + receive(hx("05 31 31 31 31 7E")) + D
            + sender(width=280) + next_octets(1) + receiver(width=256) + receive(FLAG) + D,
-           ["O 07", "R 14", "S 3 6 0 0 0 6 1 1 0 0 32", "T 3 0 0 0 0 0 0 0 0 0 16",
-            "O 06", "R 13", "S 3 5 0 0 0 5 1 1 0 0 16", "T 3 0 0 0 0 0 0 0 0 0 32",
-            "R 3", "R 3", "S 3 0 0 0 0 0 0 0 0 0 24", "T 3 0 0 0 0 0 0 0 0 0 0"])
+           ["O 07", "R 14", "S 3 6 0 0 0 6 1 1 0 0 32 2048", "T 3 0 0 0 0 0 0 0 0 0 16 2048",
+            "O 06", "R 13", "S 3 5 0 0 0 5 1 1 0 0 16 2048", "T 3 0 0 0 0 0 0 0 0 0 32 2048",
+            "R 3", "R 3", "S 3 0 0 0 0 0 0 0 0 0 24 2048", "T 3 0 0 0 0 0 0 0 0 0 0 2048"])
 
 
 def wide_areas():
     for lengths, low, high, after in (
-            (LENT[32], "D", "D", "O 07"), ((2051, 2052, 2053, 2053), "R 2", "D", "R 2"),
-            ((2052, 2051, 2053, 2053), "D", "R 2", "R 2"), (LENT[16], "R 2", "R 2", "R 2"),
+            (lent(32), "D", "D", "O 07"), ((2051, 2052, 2053, 2053), "R 2", "D", "R 2"),
+            ((2052, 2051, 2053, 2053), "D", "R 2", "R 2"), (lent(16), "R 2", "R 2", "R 2"),
             ((20480, 2051, 0, 0), "D", "R 2", "R 2"), ((2052, 20480, 0, 0), "D", "D", "O 07")):
         yield (f"32 bits, sender areas of {lengths[0]} and {lengths[1]}", open_sender(3, 32) + lend(lengths)
                + load_low(TWO) + load_high(TWO) + next_octets(1) + D + show_sender(), f"{low}, {high}, {after}")
-    for lengths, answers in ((LENT[32], "H 1 0"), ((0, 0, 2052, 2053), "R 2, R 2, R 2"),
-                             ((0, 0, 2053, 2052), "R 2, R 2, R 2"), (LENT[16], "R 2, R 2, R 2"),
+    for lengths, answers in ((lent(32), "H 1 0"), ((0, 0, 2052, 2053), "R 2, R 2, R 2"),
+                             ((0, 0, 2053, 2052), "R 2, R 2, R 2"), (lent(16), "R 2, R 2, R 2"),
                              ((0, 0, 2053, 20480), "H 1 0")):
         yield (f"32 bits, receiver areas of {lengths[2]} and {lengths[3]}", open_receiver(3, 32) + lend(lengths)
                + receive(hx("05 31 7E")) + D + show_receiver(), answers)
-    yield ("areas for 16 bits are long enough for 16 bits", lend(LENT[16]) + open_sender(3, 16) + open_receiver(3, 16)
+    yield ("areas for 16 bits are long enough for 16 bits", lend(lent(16)) + open_sender(3, 16) + open_receiver(3, 16)
            + load_low(TWO) + load_high(TWO) + next_octets(1) + receive(hx("05 31 7E")) + D + WIDE_LENGTHS,
            "D, D, O 05, H 1 0")
 
@@ -883,10 +884,10 @@ def wide_loads():
     longest = b"1" * 2048
     check = fcs(longest, 32).hex(" ").upper()
     yield ("F and nothing beyond", open_sender(3, 32) + fill(0, 0, hx("EE") * 12) + load_low(hx("00 00")) + show(0, 0, 8) + D,
-           ["D", "X 00 00 FF 12 D9 41 EE EE", "S 3 6 0 0 0 0 0 0 0 0 32", "T 3 1 0 2 0 0 0 0 0 0 16"])
+           ["D", "X 00 00 FF 12 D9 41 EE EE", "S 3 6 0 0 0 0 0 0 0 0 32 2048", "T 3 1 0 2 0 0 0 0 0 0 16 2048"])
     yield ("2,048 octets, area exactly long enough", open_sender(3, 32) + fill(1, 2040, hx("EE") * 20) + load_high(longest)
            + show(1, 2046, 8) + D,
-           ["D", f"X 31 31 {check} EE EE", "S 3 0 0 2052 0 0 0 0 0 0 32", "T 3 1 0 2 0 0 0 0 0 0 16"])
+           ["D", f"X 31 31 {check} EE EE", "S 3 0 0 2052 0 0 0 0 0 0 32 2048", "T 3 1 0 2 0 0 0 0 0 0 16 2048"])
     yield ("1: 0, 1 and 2,049 octets", open_sender(3, 32) + load_low(b"") + load_high(ONE) + load_low(b"1" * 2049),
            "R 1, R 1, R 1")
     yield "4", open_sender(3, 32) + load_low(TWO) + load_low(TWO) + load_high(TWO) + load_high(TWO), "D, R 4, D, R 4"
@@ -939,7 +940,7 @@ def wide_bounds():
 def wide_limits():
     """Refusals 10 and 13."""
     for width, most in ((16, 2051), (32, 2053)):
-        before = lend(LENT[width]) + fill(2, 2040, hx("EE") * 20)
+        before = lend(lent(width)) + fill(2, 2040, hx("EE") * 20)
         shown = show(2, most - 3, 6)
         yield (f"10, {width} bits: a data octet beyond {most}", before
                + receiver(decoded=most, left=2, zeros=1, width=width, **IN_OTHER) + receive(hx("31")) + shown + receive(FLAG),
@@ -1021,14 +1022,14 @@ def wide_delivery():
     low, high = hx("41 42 43") + fcs(hx("41 42 43"), 32), hx("44 45") + fcs(hx("44 45"), 32)
     assert 0 not in low + high and FLAG[0] not in low + high
     urgent, rest = hx("07") + high + FLAG, hx("D1 07") + low[1:] + FLAG
-    idle = "S 3 0 0 0 0 0 0 0 0 0 32"
+    idle = "S 3 0 0 0 0 0 0 0 0 0 32 2048"
     yield ("sent", open_sender(3, 32) + open_receiver(3, 32) + load_low(hx("41 42 43")) + next_octets(2) + D
            + load_high(hx("44 45")) + next_octets(1) + D + next_octets(len(urgent + rest) + 1),
-           ["D", "O 08", "O 41", "S 3 7 1 0 0 6 1 1 0 0 32", "T 3 0 0 0 0 0 0 0 0 0 32",
-            "D", "O 7E", "S 3 7 1 6 0 0 0 0 1 0 32", "T 3 0 0 0 0 0 0 0 0 0 32", *sent(urgent + rest), "I"])
+           ["D", "O 08", "O 41", "S 3 7 1 0 0 6 1 1 0 0 32 2048", "T 3 0 0 0 0 0 0 0 0 0 32 2048",
+            "D", "O 7E", "S 3 7 1 6 0 0 0 0 1 0 32 2048", "T 3 0 0 0 0 0 0 0 0 0 32 2048", *sent(urgent + rest), "I"])
     yield ("received", receive(hx("08 41 7E")) + D + receive(urgent) + D + receive(rest[:-1]) + D + receive(FLAG) + D,
-           ["H 1 0", idle, "T 3 1 0 2 0 0 0 0 0 0 32", "P 1 2 44 45", idle, "T 3 1 0 2 0 0 0 0 0 0 32",
-            idle, "T 3 0 8 0 0 0 2 1 1 0 32", "P 0 3 41 42 43", idle, "T 3 0 0 0 0 0 0 0 0 0 32"])
+           ["H 1 0", idle, "T 3 1 0 2 0 0 0 0 0 0 32 2048", "P 1 2 44 45", idle, "T 3 1 0 2 0 0 0 0 0 0 32 2048",
+            idle, "T 3 0 8 0 0 0 2 1 1 0 32 2048", "P 0 3 41 42 43", idle, "T 3 0 0 0 0 0 0 0 0 0 32 2048"])
     between = hx("D3 02 7E") + urgent + hx("D1 02 7E") + urgent + hx("D1")
     tail = hx("31 32") + fcs(hx("00 00 00 31 32"), 32)
     assert 0 not in tail and FLAG[0] not in tail
@@ -1052,7 +1053,7 @@ def wide_delivery():
     last = hx("02") + whole[-2:]
     yield ("the longest packet, all but its last octet held", open_receiver(3, 32)
            + receive(whole[:-2] + FLAG + urgent + hx("D1") + last) + D,
-           ["H 2051 0", "P 1 2 44 45", packet_line(0, longest), "S 3 0 0 0 0 0 0 0 0 0 32", "T 3 0 0 0 0 0 0 0 0 0 32"])
+           ["H 2051 0", "P 1 2 44 45", packet_line(0, longest), "S 3 0 0 0 0 0 0 0 0 0 32 2048", "T 3 0 0 0 0 0 0 0 0 0 32 2048"])
 
 
 def wide_settings():
@@ -1062,7 +1063,7 @@ def wide_settings():
         yield (f"settings {settings:02X}", open_receiver(settings, 32)
                + receive(hx("D7 7E D1 01 7E 05 31 7E D2 7E FF 7E 01 7E")) + D,
                [f"R {14 if zxe else 6}", f"R {8 if pre else 6}", "H 1 0" if pre else "R 11", "R 7", "R 5", "R 13",
-                "S 3 0 0 0 0 0 0 0 0 0 32", f"T {settings} {1 if pre else 0} 0 {2 if pre else 0} 0 0 0 0 0 0 32"])
+                "S 3 0 0 0 0 0 0 0 0 0 32 2048", f"T {settings} {1 if pre else 0} 0 {2 if pre else 0} 0 0 0 0 0 0 32 2048"])
 
 
 WIDTH_TABLE = [
@@ -1081,6 +1082,367 @@ WIDTH_TABLE = [
 ]
 
 
+# ------------------------------------------------------------------------------------------------
+# The table of the script limit: document 02, slip 11
+# ------------------------------------------------------------------------------------------------
+
+# Limit and width; octets of the longest frame; octets decoded at most; a line of exactly so many zeros, as run codes: how
+# often DF, and the code behind them.
+BOUNDS = (
+    (2, 16, 4, 5, 0, 0xD5), (2, 32, 6, 7, 0, 0xD7), (3, 16, 5, 6, 0, 0xD6), (3, 32, 7, 8, 0, 0xD8),
+    (2048, 16, 2050, 2051, 136, 0xDB), (2048, 32, 2052, 2053, 136, 0xDD),
+    (16384, 16, 16386, 16387, 1092, 0xD7), (16384, 32, 16388, 16389, 1092, 0xD9))
+OUT_OF_RANGE = (0, 1, 16385, 16386, 18432, 32768, 32770, 65535)
+LONGEST = 16384
+THREE, FOUR = hx("41 42 43"), hx("41 42 43 44")
+ENDS = (open_sender, open_receiver)
+
+
+def opened(width, limit):
+    """Both ends, and areas exactly long enough."""
+    return open_sender(3, width, limit) + open_receiver(3, width, limit) + lend(lent(width, limit))
+
+
+def plain_line(data, width):
+    """A packet without zeros and 7E that fits into one block, as a frame on the line."""
+    whole = data + fcs(data, width)
+    assert 0 not in whole and FLAG[0] not in whole and 0x7E != len(whole) + 1 <= 207
+    return bytes((len(whole) + 1,)) + whole + FLAG
+
+
+def spotted(area):
+    """EE here and there in an area, so that zeros written there show."""
+    return b"".join(fill(area, at, hx("EE EE")) for at in range(0, 16400, 800))
+
+
+def limit_start():
+    """What is lent at the start is what 2,048 and 16 bits want, and no more."""
+    for width, limit, answers in ((16, 2048, "D, D, O 05, H 1 0"), (16, 2049, "R 2, R 2, R 2, R 2, R 2, R 2"),
+                                  (32, 2046, "D, D, O 07, H 1 0"), (32, 2047, "R 2, R 2, R 2, R 2, R 2, R 2")):
+        yield (f"limit {limit}, {width} bits", open_sender(3, width, limit) + open_receiver(3, width, limit) + load_low(TWO)
+               + load_high(TWO) + next_octets(1) + receive(hx("05 31 7E")), answers)
+
+
+def limit_examples():
+    """The table of examples that goes with the slip's readings, row by row; settings 03 and 16 bits unless said."""
+    for end in ENDS:
+        yield f"{end.__name__}, 03, 24, limit 1 and limit 16,385", end(3, 24, 1) + end(3, 24, 16385), "R 23, R 23"
+        yield f"{end.__name__}, 03, 24, limit 2", end(3, 24, 2), "R 3"
+    yield ("limit 2: load of 2 with area 3, of 3 with area 4, of 2 with area 4", open_sender(3, 16, 2) + lend((3, 3, 0, 0))
+           + load_low(TWO) + lend((4, 3, 0, 0)) + load_low(THREE) + load_low(TWO), "R 2, R 1, D")
+    yield ("limit 16,384: load of 16,384 with area 16,385, of 16,385 with area 16,386, of 16,384 with area 16,386",
+           open_sender(3, 16, LONGEST) + lend((16385, 0, 0, 0)) + load_low(b"A" * LONGEST) + lend((16386, 0, 0, 0))
+           + fill(0, 16380, hx("EE") * 9) + load_low(b"A" * (LONGEST + 1)) + show(0, 16380, 9) + load_low(b"A" * LONGEST)
+           + show(0, 16380, 9) + D,
+           ["R 2", "R 1", "X EE EE EE EE EE EE EE EE EE", "D",
+            f"X 41 41 41 41 {fcs(b'A' * LONGEST).hex(' ').upper()} EE EE EE",
+            "S 3 16386 0 0 0 0 0 0 0 0 16 16384", "T 3 0 0 0 0 0 0 0 0 0 32 2047"])
+    yield ("and its first octets and its last are sent", lend((16386, 16386, 0, 0)) + next_octets(3)
+           + sender(low=(16386, 16353), line=1, limit=LONGEST) + next_octets(36),
+           ["O D0", "O 41", "O 41", "O 22", *["O 41"] * 31, *sent(fcs(b"A" * LONGEST)), "O 7E", "I"])
+    yield ("a state with limit 1, a load of 1 octet, an area of 0", sender(limit=1) + lend((0, 0, 0, 0)) + load_low(ONE),
+           "R 3")
+    yield ("limit 2: 41 42, three octets, D5, D6", lend((0, 0, 5, 5)) + open_receiver(3, 16, 2)
+           + receive(hx("05 41 42 EF 31 7E") + hx("06 41 42 43 2F 9F 7E") + hx("D5 7E") + hx("D6 7E")),
+           "P 0 2 41 42, R 10, R 14, R 10")
+    yield "limit 2: a frame of 3 octets with its FCS", receive(hx("04 41 42 EF 7E")), "R 13"
+
+
+def limit_openings():
+    for limit in (2, 3, 4, 255, 256, 257, 2047, 2048, 2049, 16383, 16384):
+        for width in WIDTHS:
+            yield (f"limit {limit}, {width} bits", open_sender(1, width, limit) + open_receiver(2, width, limit) + D,
+                   [f"S 1 0 0 0 0 0 0 0 0 0 {width} {limit}", f"T 2 0 0 0 0 0 0 0 0 0 {width} {limit}"])
+    for limit in OUT_OF_RANGE:
+        for end in ENDS:
+            yield (f"{end.__name__}, limit {limit}, with 16 bits, 32, and wrong widths", b"".join(
+                end(0, width, limit) for width in (16, 32, 0, 17, 24, 255)), ", ".join(["R 23"] * 6))
+    for end in ENDS:
+        yield (f"{end.__name__}, wrong widths, good limits", b"".join(
+            end(0, width, limit) for width in (0, 24, 255) for limit in (2, 3, 2048, 16384)), ", ".join(["R 3"] * 12))
+    yield ("none of these has left its mark", D, ["S 1 0 0 0 0 0 0 0 0 0 32 16384", "T 2 0 0 0 0 0 0 0 0 0 32 16384"])
+    yield ("the low octet stands first", b"o" + hx("03 10 02 00") + b"O" + hx("03 20 00 02") + D + b"o" + hx("03 10 01 40")
+           + b"O" + hx("03 20 40 01") + b"o" + hx("03 18 02 01") + D,
+           ["S 3 0 0 0 0 0 0 0 0 0 16 2", "T 3 0 0 0 0 0 0 0 0 0 32 512", "R 23", "R 3",
+            "S 3 0 0 0 0 0 0 0 0 0 16 2", "T 3 0 0 0 0 0 0 0 0 0 32 320"])
+    yield ("a refused opening leaves the end as it was", sender(low=(9, 2), high=(6, 0), left=3, zeros=1, line=1, width=32, limit=9)
+           + receiver(settings=2, work=1, held=7, limit=20, **IN_BLOCK) + open_sender(0, 16, 1) + open_receiver(1, 32, 16385)
+           + open_sender(0, 24, 5) + open_receiver(1, 0, 5) + D,
+           ["R 23", "R 23", "R 3", "R 3", "S 3 9 2 6 0 3 1 1 0 0 32 9", "T 2 1 1 8 2 1 2 1 0 0 16 20"])
+    yield ("a refused opening leaves a state out of bounds too", sender(low=(3, 9), left=255, width=24, limit=65535)
+           + receiver(decoded=9999, refusal=77, width=0, limit=1) + open_sender(0, 16, 0) + open_receiver(1, 16, 65535) + D,
+           ["R 23", "R 23", "S 3 3 9 0 0 255 0 0 0 0 24 65535", "T 3 0 9999 0 0 0 0 0 0 77 0 1"])
+    yield ("and goes on where it was", opened(16, 2) + load_low(TWO) + next_octets(2) + open_sender(0, 16, 1) + next_octets(5)
+           + receive(hx("05 41 42")) + open_receiver(0, 16, 16385) + receive(hx("EF 31 7E")),
+           ["D", *sent(hx("05 41")), "R 23", *sent(hx("42 EF 31 7E")), "I", "R 23", "P 0 2 41 42"])
+    yield ("the lengths lent play no part", lend((0, 0, 0, 0)) + open_sender(3, 32, 16384) + open_receiver(3, 16, 2) + D
+           + open_sender(3, 32, 16385) + open_receiver(3, 15, 1),
+           ["S 3 0 0 0 0 0 0 0 0 0 32 16384", "T 3 0 0 0 0 0 0 0 0 0 16 2", "R 23", "R 23"])
+    yield ("an opening ends what was there, and its limit", sender(low=(9, 2), high=(6, 0), left=3, zeros=1, line=1, limit=1)
+           + receiver(work=1, held=7, limit=16385, **IN_BLOCK) + open_sender(3, 16, 7) + open_receiver(3, 32, 8) + D,
+           ["S 3 0 0 0 0 0 0 0 0 0 16 7", "T 3 0 0 0 0 0 0 0 0 0 32 8"])
+
+
+def out_of_range():
+    """A state with a limit out of range is refused 3, whatever else is wrong, and stays as it was."""
+    for limit in OUT_OF_RANGE:
+        for width, lengths in ((16, (20480,) * 4), (32, (20480,) * 4), (16, (0,) * 4), (24, (0,) * 4)):
+            state = f" 0 0 0 0 0 0 0 0 0 {width} {limit}"
+            yield (f"limit {limit}, width {width}, areas of {lengths[0]}", lend(lengths) + sender(width=width, limit=limit)
+                   + load_low(TWO) + load_high(TWO) + next_octets(2) + receiver(width=width, limit=limit)
+                   + receive(hx("05 31 7E")) + D, ["R 3"] * 7 + ["S 3" + state, "T 3" + state])
+        for lengths in ((20480,) * 4, (0,) * 4):
+            yield (f"limit {limit}, areas of {lengths[0]}, states out of bounds, wrong packets", lend(lengths)
+                   + sender(low=(3, 0), limit=limit) + load_low(ONE) + load_high(b"") + next_octets(1)
+                   + receiver(decoded=1, limit=limit) + receive(hx("31")), "R 3, R 3, R 3, R 3")
+        yield (f"limit {limit}, lanes loaded, something held", sender(low=(4, 0), high=(4, 0), limit=limit) + load_low(TWO)
+               + load_high(ONE) + next_octets(1) + receiver(held=1, limit=limit) + receive(hx("D1")), "R 3, R 3, R 3, R 3")
+    yield ("areas that would do for 2,048 play no part", lend(lent(16)) + sender(limit=1) + load_low(TWO) + next_octets(1)
+           + receiver(limit=16385) + receive(FLAG), "R 3, R 3, R 3")
+
+
+def limit_areas():
+    for limit, width, frame, most, *_ in BOUNDS:
+        begin, exact = ("O 05" if width == 16 else "O 07"), [frame, frame, most, most]
+        calls = (open_sender(3, width, limit) + open_receiver(3, width, limit) + load_low(TWO) + load_high(TWO)
+                 + next_octets(1) + receive(hx("05 31 7E")))
+        yield f"limit {limit}, {width} bits, exactly long enough", lend(exact) + calls, f"D, D, {begin}, H 1 0"
+        for area, answers in enumerate(("R 2, D, R 2, H 1 0", "D, R 2, R 2, H 1 0", f"D, D, {begin}, R 2, R 2, R 2",
+                                        f"D, D, {begin}, R 2, R 2, R 2")):
+            lengths = list(exact)
+            lengths[area] -= 1
+            yield f"limit {limit}, {width} bits, area {area} one short", lend(lengths) + calls, answers
+        yield (f"limit {limit}, {width} bits, nothing lent", lend((0, 0, 0, 0)) + calls, "R 2, R 2, R 2, R 2, R 2, R 2")
+        yield f"limit {limit}, {width} bits, longer", lend((frame + 1, 20480, most + 1, 65535)) + calls, f"D, D, {begin}, H 1 0"
+    for width in WIDTHS:
+        yield (f"limit 16,384, {width} bits, areas for 2,048", lend(lent(width)) + open_sender(3, width, 16384)
+               + open_receiver(3, width, 16384) + load_low(TWO) + next_octets(1) + receive(FLAG), "R 2, R 2, R 2")
+    yield ("areas for 16 bits, 32 bits", lend((5, 5, 6, 6)) + open_sender(3, 32, 3) + open_receiver(3, 32, 3) + load_low(TWO)
+           + load_high(TWO) + next_octets(1) + receive(FLAG), "R 2, R 2, R 2, R 2")
+    yield ("idle sender of 16,384, one area short", open_sender(3, 16, 16384) + lend((16386, 16385, 0, 0)) + next_octets(1), "R 2")
+
+
+def limit_loads():
+    """1, and what a load writes. Packets of 2,048 are loaded in the other tables; those of 16,384 with 16 bits by the
+    examples, and with 32 where they are sent."""
+    for limit, width, frame, *_ in BOUNDS[:4]:
+        longest = b"A" * limit
+        check = fcs(longest, width).hex(" ").upper()
+        yield (f"limit {limit}, {width} bits", opened(width, limit) + fill(0, limit - 2, hx("EE") * 9) + load_low(b"")
+               + load_low(ONE) + load_low(b"A" * (limit + 1)) + show(0, limit - 2, 9) + load_low(longest)
+               + show(0, limit - 2, width // 8 + 4) + D + load_low(TWO),
+               ["R 1", "R 1", "R 1", "X" + " EE" * 9, "D", f"X 41 41 {check} EE EE",
+                f"S 3 {frame} 0 0 0 0 0 0 0 0 {width} {limit}", f"T 3 0 0 0 0 0 0 0 0 0 {width} {limit}", "R 4"])
+        yield f"limit {limit}, {width} bits, 2 octets, high", load_high(TWO) + load_high(TWO), "D, R 4"
+    for limit in (4, 9, 255, 256, 257, 512):
+        yield (f"limit {limit}, long areas: so many octets and one more", opened(16, limit) + lend((20480,) * 4)
+               + load_low(b"A" * (limit + 1)) + load_low(b"A" * limit) + load_high(b"A" * (limit + 1)), "R 1, D, R 1")
+
+
+def limit_orders():
+    """3 by the limit, 2, 3 by the rest, 4, 1."""
+    short, exact = lend((4, 4, 5, 5)), lend((5, 5, 6, 6))
+    holds = sender(low=(5, 0), high=(5, 0), limit=3)
+    yield "3 by the limit before 2", short + sender(limit=1) + load_low(TWO) + load_high(ONE) + next_octets(1), "R 3, R 3, R 3"
+    yield "3 by the limit before 2, receiver", receiver(limit=1) + receive(FLAG), "R 3"
+    yield "3 by the width before 2", sender(width=24, limit=3) + load_low(TWO) + receiver(width=24, limit=3) + receive(FLAG), "R 3, R 3"
+    yield "2 before 3", sender(low=(6, 0), limit=3) + load_low(TWO) + load_high(TWO) + next_octets(1), "R 2, R 2, R 2"
+    yield "2 before 3, receiver", receiver(held=7, limit=3) + receive(FLAG), "R 2"
+    yield "2 before 4 and 1", holds + load_low(TWO) + load_high(ONE), "R 2, R 2"
+    yield "2 before 1", sender(limit=3) + load_low(ONE) + load_high(FOUR), "R 2, R 2"
+    yield "3 before 4 and 1", exact + sender(low=(6, 0), limit=3) + load_low(ONE) + load_high(FOUR), "R 3, R 3"
+    yield "4 before 1", holds + load_low(ONE) + load_high(FOUR), "R 4, R 4"
+    yield "1 last", sender(limit=3) + load_low(ONE) + load_high(FOUR), "R 1, R 1"
+    # A limit below what the state holds: the areas are tested by that limit, then the state.
+    for width, frame in ((16, 52), (32, 54)):
+        for name, state in (("low", dict(low=(100, 0))), ("high", dict(high=(100, 0))),
+                            ("on the line", dict(low=(100, 0), left=60, line=1))):
+            yield (f"limit 50, {width} bits, a frame of 100, {name}", b"".join(
+                lend((length, length, 0, 0)) + sender(width=width, limit=limit, **state) + next_octets(1)
+                for length, limit in ((frame - 1, 50), (frame, 50), (20480, 50), (20480, 99 - width // 8))), "R 2, R 3, R 3, R 3")
+        for name, state in (("held", dict(held=100)), ("decoded", dict(decoded=100, left=1, **IN_OTHER)),
+                            ("decoded, refused", dict(decoded=100, frame=1, refusal=7))):
+            yield (f"limit 50, {width} bits, 100 octets {name}", b"".join(
+                lend((0, 0, length, length)) + receiver(width=width, limit=limit, **state) + receive(hx("31"))
+                for length, limit in ((frame, 50), (frame + 1, 50), (20480, 50), (20480, 98 - width // 8))), "R 2, R 3, R 3, R 3")
+
+
+def limit_bounds():
+    for limit, width, frame, most, *_ in BOUNDS:
+        agreed, least = dict(width=width, limit=limit), 4 if width == 16 else 6
+        yield f"limit {limit}, {width} bits, areas", lend((20480,) * 4), []
+        for lane, other in (("low", load_high), ("high", load_low)):
+            def state(length, position, lane=lane, agreed=agreed):
+                return sender(**{lane: (length, position)}, **agreed)
+
+            yield (f"limit {limit}, {width} bits, {lane} length, other lane's load", b"".join(
+                state(length, 0) + other(TWO) for length in (least - 1, least, frame, frame + 1, 65535)), "R 3, D, D, R 3, R 3")
+            yield (f"limit {limit}, {width} bits, {lane} length, next octet", b"".join(
+                state(length, length + 1) + next_octets(1) for length in (least - 1, least, frame, frame + 1)),
+                "R 3, O 7E, O 7E, R 3")
+            yield (f"limit {limit}, {width} bits, {lane} position", state(0, 1) + next_octets(1) + state(0, 2) + next_octets(1)
+                   + state(frame, frame + 1) + other(TWO) + state(frame, frame + 2) + other(TWO) + next_octets(1),
+                   "I, R 3, D, R 3, R 3")
+        left = min(207, frame + 1)
+        yield (f"limit {limit}, {width} bits, data left and zeros within D", b"".join(
+            sender(low=(frame, position), left=count, zeros=zeros, line=1, **agreed) + load_high(TWO) for position, count, zeros in (
+                (frame + 1 - left, left, 0), (frame + 2 - left, left, 0), (frame - 1, 1, 1), (frame - 1, 1, 2), (0, 208, 0))),
+            "D, R 3, D, R 3, R 3")
+        yield (f"limit {limit}, {width} bits, decoded", b"".join(
+            receiver(decoded=count, left=1, **IN_OTHER, **agreed) + receive(FLAG) for count in (most, most + 1, 65535)),
+            f"H {most} 0, R 3, R 3")
+        yield (f"limit {limit}, {width} bits, decoded, refused", b"".join(
+            receiver(decoded=count, frame=1, refusal=10, **agreed) + receive(FLAG) for count in (most, most + 1)), "R 10, R 3")
+        yield (f"limit {limit}, {width} bits, held", b"".join(
+            receiver(held=count, **agreed) + receive(hx("05 31 7E")) for count in (0, most, most + 1, 65534)),
+            "H 1 1, H 1 1" + ", R 3" * 6)
+        yield (f"limit {limit}, {width} bits, data left, whatever the limit", b"".join(
+            receiver(left=count, **IN_OTHER, **agreed) + receive(FLAG) for count in (207, 208)), "H 0 0, R 3")
+        yield (f"limit {limit}, {width} bits, out of a frame", receiver(decoded=1, **agreed) + receive(FLAG), "R 3")
+
+
+def too_much():
+    """10, and what is written before it."""
+    for limit, width, frame, most, runs, last in BOUNDS:
+        agreed = dict(width=width, limit=limit)
+        before = fill(2, max(0, most - 7), hx("EE") * 12)
+        shown = show(2, most - 3, 6)
+        yield (f"limit {limit}, {width} bits: a data octet beyond {most}", opened(width, limit) + before
+               + receiver(decoded=most, left=2, zeros=1, **IN_OTHER, **agreed) + receive(hx("31")) + shown + receive(FLAG),
+               ["X EE EE EE EE EE EE", "R 10"])
+        yield (f"limit {limit}, {width} bits: the last data octet fits, its zero does not", before
+               + receiver(decoded=most - 1, left=1, zeros=1, **IN_OTHER, **agreed) + receive(hx("31")) + shown + receive(FLAG),
+               ["X EE EE 31 EE EE EE", "R 10"])
+        yield (f"limit {limit}, {width} bits: two zeros together", before
+               + receiver(decoded=most - 1, **IN_OTHER, **agreed) + receive(hx("E0")) + shown + receive(FLAG),
+               ["X EE EE EE EE EE EE", "R 10"])
+        yield (f"limit {limit}, {width} bits: two zeros up to {most}", before
+               + receiver(decoded=most - 2, **IN_OTHER, **agreed) + receive(hx("E0")) + shown + receive(FLAG),
+               ["X EE 00 00 EE EE EE", "R 14"])
+        yield (f"limit {limit}, {width} bits: D1 onto {most} and onto {most - 1}", receiver(held=most, **agreed)
+               + receive(hx("D1 01 7E")) + fill(3, max(0, most - 7), hx("EE") * 12) + receiver(held=most - 1, **agreed)
+               + receive(hx("D1 01 7E")), "R 10, R 14")
+        yield (f"limit {limit}, {width} bits: {most} zeros, and one more", open_receiver(3, width, limit)
+               + receive(hx("DF") * runs + bytes((last,)) + FLAG) + receive(hx("DF") * runs + bytes((last + 1,)) + FLAG),
+               "R 14, R 10")
+    yield ("limit 2: no more than its octets are written", opened(16, 2) + fill(2, 0, hx("EE") * 9)
+           + receive(hx("D0 31 32 33 34 35 36 37 38")) + show(2, 0, 8) + D + receive(FLAG),
+           ["X 31 32 33 34 35 EE EE EE", "S 3 0 0 0 0 0 0 0 0 0 16 2", "T 3 0 5 0 0 0 0 1 0 10 16 2", "R 10"])
+    for width, limit in ((16, 204), (32, 202)):
+        full = hx("D0") + b"1" * 207 + FLAG
+        yield (f"12 from limit {limit} on, {width} bits; below it 10", opened(width, limit) + receive(full)
+               + opened(width, limit - 1) + receive(full), "R 12, R 10")
+        data = b"A" * (limit + 1)
+        whole = data + fcs(data, width)
+        assert 0 not in whole and FLAG[0] not in whole and len(whole) == 207
+        line = hx("D0") + whole + hx("01") + FLAG
+        yield (f"a frame of one full block, {width} bits: limit {limit + 1}, and {limit}", opened(width, limit + 1) + load_low(data)
+               + next_octets(len(line) + 1) + receive(line) + opened(width, limit) + load_low(data) + receive(line),
+               ["D", *sent(line), "I", packet_line(0, data), "R 1", "R 10"])
+    for width in WIDTHS:
+        for count in range(8):
+            yield (f"limit 2, {width} bits, {count} octets", opened(width, 2) + receive(bytes((count + 1,)) + b"1" * count + FLAG),
+                   "R 13" if count < 2 + width // 8 else "R 14" if count == 2 + width // 8 else "R 10")
+
+
+def longest_frames():
+    """A packet as long as the limit allows is delivered; one octet more is refused 10. For packets of 2,048 see the other
+    tables, too."""
+    for limit, data, more in ((2, TWO, THREE), (3, THREE, FOUR)):
+        for width in WIDTHS:
+            line = plain_line(data, width)
+            yield (f"limit {limit}, {width} bits: sent, and received in either area", opened(width, limit) + load_low(data)
+                   + next_octets(len(line) + 1) + receive(line) + receive(hx("05 31 7E")) + receive(line),
+                   ["D", *sent(line), "I", packet_line(0, data), "H 1 0", packet_line(1, data)])
+            yield (f"limit {limit}, {width} bits: one octet more", receive(plain_line(more, width)) + receive(line),
+                   f"R 10, {packet_line(1, data)}")
+            yield (f"limit {limit}, {width} bits: a packet of 2", receive(plain_line(TWO, width)), packet_line(1, TWO))
+    # 1,092 runs have 16,380 zeros, 136 have 2,040.
+    zeros = {n: hx("DF") * (n // 15) + bytes((0xD0 + n % 15,)) for n in (2048, 2049, LONGEST, LONGEST + 1)}
+    check = {(n, width): fcs(bytes(n), width) for n in zeros for width in WIDTHS}
+    assert not any(0 in octets or FLAG[0] in octets for octets in check.values())
+    line = {(n, width): zeros[n] + bytes((width // 8 + 1,)) + check[n, width] + FLAG for n, width in check}
+    for width in WIDTHS:
+        yield (f"limit 2,048, {width} bits: one octet more", opened(width, 2048) + receive(line[2049, width]), "R 10")
+        yield (f"limit 2,049, {width} bits: no octet too many", opened(width, 2049) + receive(line[2049, width][:-1]) + D,
+               [f"S 3 0 0 0 0 0 0 0 0 0 {width} 2049", f"T 3 0 {2050 + width // 8} 0 0 0 2 1 0 0 {width} 2049"])
+        yield (f"limit 16,384, {width} bits: one octet more", opened(width, LONGEST) + receive(line[LONGEST + 1, width]) + D,
+               ["R 10", f"S 3 0 0 0 0 0 0 0 0 0 {width} 16384", f"T 3 0 0 0 0 0 0 0 0 0 {width} 16384"])
+    yield ("limit 16,384, 16 bits: zeros received", opened(16, LONGEST) + spotted(2) + receive(line[LONGEST, 16]),
+           packet_line(0, bytes(LONGEST)))
+    yield ("limit 16,384, 32 bits: zeros, one octet more than can be loaded", opened(32, LONGEST)
+           + spotted(1) + fill(1, LONGEST - 2, hx("EE") * 9) + load_high(bytes(LONGEST + 1)) + show(1, LONGEST - 2, 9) + D,
+           ["R 1", "X" + " EE" * 9, "S 3 0 0 0 0 0 0 0 0 0 32 16384", "T 3 0 0 0 0 0 0 0 0 0 32 16384"])
+    yield ("limit 16,384, 32 bits: zeros, sent", load_high(bytes(LONGEST)) + show(1, LONGEST - 2, 9) + D
+           + next_octets(len(line[LONGEST, 32]) + 1),
+           ["D", f"X 00 00 {check[LONGEST, 32].hex(' ').upper()} EE EE EE", "S 3 0 0 16388 0 0 0 0 0 0 32 16384",
+            "T 3 0 0 0 0 0 0 0 0 0 32 16384", *sent(line[LONGEST, 32]), "I"])
+    yield ("limit 16,384, 32 bits: zeros received, in the second area", spotted(3) + receive(hx("05 31 7E"))
+           + receive(line[LONGEST, 32]) + D,
+           ["H 1 0", packet_line(1, bytes(LONGEST)),
+            "S 3 0 0 0 0 0 0 0 0 0 32 16384", "T 3 1 0 2 0 0 0 0 0 0 32 16384"])
+    yield "limit 16,383: the packet of 16,384", opened(32, 16383) + receive(line[LONGEST, 32]), "R 10"
+
+
+def limit_stays():
+    """Both ends, limit 3. 41 42 43 (FCS 2F 9F) is broken off after 41 by 44 45 (FCS E8 3B), and resumed; then refusals."""
+    idle, fresh = "S 3 0 0 0 0 0 0 0 0 0 16 3", "T 3 0 0 0 0 0 0 0 0 0 16 3"
+    yield ("sent", opened(16, 3) + load_low(THREE) + D + next_octets(2) + D + load_high(hx("44 45")) + next_octets(1) + D
+           + next_octets(6) + D + next_octets(8) + D,
+           ["D", "S 3 5 0 0 0 0 0 0 0 0 16 3", fresh, "O 06", "O 41", "S 3 5 1 0 0 4 1 1 0 0 16 3", fresh,
+            "D", "O 7E", "S 3 5 1 4 0 0 0 0 1 0 16 3", fresh, *sent(hx("05 44 45 E8 3B 7E")), "S 3 5 1 0 0 0 0 0 1 0 16 3", fresh,
+            *sent(hx("D1 05 42 43 2F 9F 7E")), "I", idle, fresh])
+    yield ("received", receive(hx("06 41")) + D + receive(FLAG) + D + receive(hx("05 44 45 E8 3B 7E")) + D
+           + receive(hx("D1 05 42 43 2F 9F")) + D + receive(FLAG) + D,
+           [idle, "T 3 0 1 0 4 1 2 1 0 0 16 3", "H 1 0", idle, "T 3 1 0 2 0 0 0 0 0 0 16 3",
+            "P 1 2 44 45", idle, "T 3 1 0 2 0 0 0 0 0 0 16 3", idle, "T 3 0 6 0 0 0 2 1 1 0 16 3",
+            "P 0 3 41 42 43", idle, fresh])
+    for line, answer in (("FF", "R 5"), ("D1 01", "R 8"), ("D2", "R 7"), ("D7", "R 10"), ("D3", "R 13"), ("D6", "R 14")):
+        yield f"{line} refused", receive(hx(line) + FLAG) + D, [answer, idle, fresh]
+    yield "a call refused 1, one refused 4", load_low(FOUR) + load_low(TWO) + load_low(TWO) + D, [
+        "R 1", "D", "R 4", "S 3 4 0 0 0 0 0 0 0 0 16 3", fresh]
+    yield ("held as much as can be, and resumed", opened(16, 2) + receive(hx("07 41 42 EF 31 55 7E")) + D
+           + receive(hx("D1 01 7E")) + D + receive(hx("05 41 42 EF 7E") + hx("05 44 45 E8 3B 7E") + hx("D1 02 31 7E")) + D,
+           ["H 5 0", "S 3 0 0 0 0 0 0 0 0 0 16 2", "T 3 1 0 6 0 0 0 0 0 0 16 2", "R 10", "S 3 0 0 0 0 0 0 0 0 0 16 2",
+            "T 3 0 0 0 0 0 0 0 0 0 16 2", "H 3 0", "P 1 2 44 45", "P 0 2 41 42", "S 3 0 0 0 0 0 0 0 0 0 16 2",
+            "T 3 0 0 0 0 0 0 0 0 0 16 2"])
+
+
+def different_limits():
+    """A sender of one limit, a receiver of another; what is sent is the same whatever the limit."""
+    for width in WIDTHS:
+        ten, eleven = plain_line(b"A" * 10, width), plain_line(b"A" * 11, width)
+        for sends, takes in ((20, 10), (11, 10), (11, 11), (10, 20), (11, 16384)):
+            lengths = (*lent(width, sends)[:2], *lent(width, takes)[2:])
+            last = (["R 1"], "") if sends < 11 else (["D", *sent(eleven)], eleven)
+            yield (f"sender's limit {sends}, receiver's {takes}, {width} bits", open_sender(3, width, sends)
+                   + open_receiver(3, width, takes) + lend(lengths) + load_low(b"A" * 10) + next_octets(len(ten))
+                   + load_low(b"A" * 11) + next_octets(len(last[1])) + receive(ten) + receive(eleven),
+                   ["D", *sent(ten), *last[0], packet_line(0, b"A" * 10),
+                    "R 10" if takes < 11 else packet_line(0, b"A" * 11)])
+    yield ("areas for the lower limit", open_sender(3, 16, 10) + open_receiver(3, 16, 11) + lend((12, 12, 13, 13))
+           + load_low(TWO) + next_octets(1) + receive(FLAG), "D, O 05, R 2")
+    yield ("a fragment of a longer packet", open_receiver(3, 16, 10) + lend((0, 0, 13, 13)) + receive(
+        hx("0F") + b"A" * 12 + FLAG) + receive(hx("D1 01 7E")) + receive(hx("0F") + b"A" * 12 + FLAG) + receive(hx("D1 02 41 7E")),
+        "H 12 0, R 14, H 12 0, R 10")
+
+
+LIMIT_TABLE = [
+    ("the start", limit_start),
+    ("slip 11's examples", limit_examples),
+    ("opening", limit_openings),
+    ("limits out of range", out_of_range),
+    ("lent areas", limit_areas),
+    ("load", limit_loads),
+    ("order of the call refusals", limit_orders),
+    ("in bounds", limit_bounds),
+    ("10, 12 and 13", too_much),
+    ("longest frames", longest_frames),
+    ("the limit stays", limit_stays),
+    ("ends of different limits", different_limits),
+]
+
+
 # --- Small scripts: commands, and every line that they give. A script ends at `E`, so each such case has its own.
 LONG = 65535
 EXAMPLE = open_sender(3) + load_low(hx("00 00")) + next_octets(6)
@@ -1093,13 +1455,13 @@ SCRIPTS = {
         open_sender(3) + load_low(hx("41 42 43")) + next_octets(2) + D + load_high(hx("44 45")) + next_octets(1) + D
         + next_octets(14) + open_receiver(3) + receive(hx("06 41 7E")) + D + receive(hx("05 44 45 E8 3B 7E")) + D
         + receive(hx("D1 05 42 43 2F 9F")) + D + receive(FLAG) + D,
-        ["D", "O 06", "O 41", "S 3 5 1 0 0 4 1 1 0 0 16", "T 0 0 0 0 0 0 0 0 0 0 16",
-         "D", "O 7E", "S 3 5 1 4 0 0 0 0 1 0 16", "T 0 0 0 0 0 0 0 0 0 0 16",
+        ["D", "O 06", "O 41", "S 3 5 1 0 0 4 1 1 0 0 16 2048", "T 0 0 0 0 0 0 0 0 0 0 16 2048",
+         "D", "O 7E", "S 3 5 1 4 0 0 0 0 1 0 16 2048", "T 0 0 0 0 0 0 0 0 0 0 16 2048",
          "O 05", "O 44", "O 45", "O E8", "O 3B", "O 7E", "O D1", "O 05", "O 42", "O 43", "O 2F", "O 9F", "O 7E", "I",
-         "H 1 0", "S 3 0 0 0 0 0 0 0 0 0 16", "T 3 1 0 2 0 0 0 0 0 0 16",
-         "P 1 2 44 45", "S 3 0 0 0 0 0 0 0 0 0 16", "T 3 1 0 2 0 0 0 0 0 0 16",
-         "S 3 0 0 0 0 0 0 0 0 0 16", "T 3 0 6 0 0 0 2 1 1 0 16",
-         "P 0 3 41 42 43", "S 3 0 0 0 0 0 0 0 0 0 16", "T 3 0 0 0 0 0 0 0 0 0 16"]),
+         "H 1 0", "S 3 0 0 0 0 0 0 0 0 0 16 2048", "T 3 1 0 2 0 0 0 0 0 0 16 2048",
+         "P 1 2 44 45", "S 3 0 0 0 0 0 0 0 0 0 16 2048", "T 3 1 0 2 0 0 0 0 0 0 16 2048",
+         "S 3 0 0 0 0 0 0 0 0 0 16 2048", "T 3 0 6 0 0 0 2 1 1 0 16 2048",
+         "P 0 3 41 42 43", "S 3 0 0 0 0 0 0 0 0 0 16 2048", "T 3 0 0 0 0 0 0 0 0 0 16 2048"]),
     # The operands of an unknown command are not known either: nothing behind it is carried out.
     "unknown": (EXAMPLE + b"?" + D, ["D", "O E0", "O 03", "O 47", "O 0F", "O 7E", "I", "E"]),
     "unknown-octet": (b"\x80", ["E"]),
@@ -1108,8 +1470,8 @@ SCRIPTS = {
     "cut-packet": (open_sender(3) + load_low(hx("41 42 43"))[:-1], ["E"]),
     "cut-line": (open_receiver(3) + receive(hx("05 31 7E 7E"))[:-1], ["E"]),
     "cut-opening": (open_sender(3, 32) + D + open_sender(3, 32)[:-1],
-                    ["S 3 0 0 0 0 0 0 0 0 0 32", "T 0 0 0 0 0 0 0 0 0 0 16", "E"]),
-    "cut-state": (hand_sender((3,) * 11)[:-1], ["E"]),
+                    ["S 3 0 0 0 0 0 0 0 0 0 32 2048", "T 0 0 0 0 0 0 0 0 0 0 16 2048", "E"]),
+    "cut-state": (hand_sender((3,) * 12)[:-1], ["E"]),
     "cut-show": (show(0, 0, 1)[:-1], ["E"]),
     "cut-letter": (D + b"A", [*FRESH, "E"]),
     # Counts as large as they can be.
@@ -1117,7 +1479,7 @@ SCRIPTS = {
         lend((LONG,) * 4) + lend_out(LONG) + fill(0, 0, hx("A5") * LONG) + show(0, 20478, LONG) + show(1, 0, 2)
         + load_low(hx("31") * LONG) + D + open_receiver(3) + receive(hx("D3 7E") + FLAG * (LONG - 4) + hx("D2 7E")) + D
         + next_octets(LONG) + show(OUT_AREA, 0, 3) + show(OUT_AREA, 40958, LONG),
-        ["X A5 A5", "X 00 00", "R 1", *FRESH, "R 13", "R 7", FRESH[0], "T 3 0 0 0 0 0 0 0 0 0 16", *["I"] * LONG,
+        ["X A5 A5", "X 00 00", "R 1", *FRESH, "R 13", "R 7", FRESH[0], "T 3 0 0 0 0 0 0 0 0 0 16 2048", *["I"] * LONG,
          "X 00 00 00", "X 00 00"]),
 }
 
@@ -1176,7 +1538,7 @@ def table_script(programs, label, groups, explain):
 
 def write_scripts(programs, folder, explain):
     scripts, wrong = {}, 0
-    for name, groups in (("base", BASE), ("width", WIDTH_TABLE)):
+    for name, groups in (("base", BASE), ("width", WIDTH_TABLE), ("limit", LIMIT_TABLE)):
         scripts[name], faults = table_script(programs, name, groups, explain)
         wrong += faults
     for name, (commands, asked) in SCRIPTS.items():

@@ -1,9 +1,12 @@
-"""The worked examples of document 01, and examples of slip 1 of document 02, held against model.rs: python3 worked.py MODEL"""
+"""The worked examples of document 01, and examples of slips 1 and 11 of document 02, held against model.rs:
+
+    python3 worked.py MODEL
+"""
 import subprocess
 import sys
 import zlib
 
-from compare import LENT, fcs, lend, open_receiver, open_sender
+from compare import fcs, lend, lent, open_receiver, open_sender
 
 MODEL = sys.argv[1]
 
@@ -37,9 +40,10 @@ def check(name, got, want):
         print("  want", repr(want)[:300])
 
 
-def sent(settings, packet, width=16):
+def sent(settings, packet, width=16, limit=2048):
     """What a sender opened with these settings sends for one low packet, as a hexadecimal text."""
-    out = run("exercise", lend(LENT[width]) + open_sender(settings, width) + b"l" + octs(packet) + b"n" + num(2300))
+    out = run("exercise", lend(lent(width, limit)) + open_sender(settings, width, limit) + b"l" + octs(packet)
+              + b"n" + num(len(packet) + 300))
     lines = out.splitlines()
     assert lines[0] == "D", lines[0]
     octets = [line[2:] for line in lines[1:] if line[0] == "O"]
@@ -47,8 +51,8 @@ def sent(settings, packet, width=16):
     return " ".join(octets)
 
 
-def received(settings, octets, width=16):
-    return run("exercise", lend(LENT[width]) + open_receiver(settings, width) + b"r" + octs(octets)).splitlines()
+def received(settings, octets, width=16, limit=2048):
+    return run("exercise", lend(lent(width, limit)) + open_receiver(settings, width, limit) + b"r" + octs(octets)).splitlines()
 
 
 # Check sequence
@@ -91,11 +95,11 @@ check("1, 2049", run("exercise", b"l" + octs(b"1" * 2049)), "R 1\n")
 check("2048 is loaded", run("exercise", b"l" + octs(b"1" * 2048)), "D\n")
 check("2", run("exercise", b"a" + num(2050) + num(2050) + num(2050) + num(2051) + b"r" + octs(hx("7E"))), "R 2\n")
 check("3", run("exercise", b"s" + num(0) + num(300) + num(0) * 3 + num(208) + num(0) + num(1) + num(0) * 2 + num(16)
-               + b"n" + num(1)), "R 3\n")
+               + num(2048) + b"n" + num(1)), "R 3\n")
 check("3, 207 is none", run("exercise", b"s" + num(0) + num(300) + num(0) * 3 + num(207) + num(0) + num(1)
-                            + num(0) * 2 + num(16) + b"n" + num(1)), "O 00\n")
+                            + num(0) * 2 + num(16) + num(2048) + b"n" + num(1)), "O 00\n")
 check("3, receiver", run("exercise", b"t" + num(0) * 4 + num(208) + num(0) + num(2) + num(1) + num(0) * 2 + num(16)
-                         + b"r" + octs(hx("31"))), "R 3\n")
+                         + num(2048) + b"r" + octs(hx("31"))), "R 3\n")
 check("4", run("exercise", (b"l" + octs(hx("3132"))) * 2), "D\nR 4\n")
 for number, settings, octets in [
     (5, 3, hx("FF 03 C0 21 7E")), (6, 0, hx("E0 7E")), (7, 3, hx("D2 7E")), (8, 3, hx("D1 01 7E")),
@@ -107,7 +111,7 @@ check("9", received(3, hx("05 31 7E D1 7E")), ["H 1 0", "R 9"])
 check("01 7E is 13", received(3, hx("01 7E")), ["R 13"])
 
 # docs/EXERCISE.md's example
-check("EXERCISE.md", run("exercise", b"o" + hx("03 10") + b"l" + hx("02 00 00 00") + b"n" + hx("06 00")),
+check("EXERCISE.md", run("exercise", b"o" + hx("03 10 00 08") + b"l" + hx("02 00 00 00") + b"n" + hx("06 00")),
       "D\nO E0\nO 03\nO 47\nO 0F\nO 7E\nI\n")
 
 # Slip 1, 32 bits
@@ -123,14 +127,14 @@ for width, octets, report in (
 for opens, end in ((open_sender, "sender"), (open_receiver, "receiver")):
     check(f"slip 1: {end} opened with 24, and with 0", run("exercise", opens(3, 24) + opens(3, 0)), "R 3\nR 3\n")
 check("slip 1: width 24, a load of 1, an area of 0",
-      run("exercise", b"a" + num(0) * 4 + b"s" + num(0) * 10 + num(24) + b"l" + octs(hx("31"))), "R 3\n")
+      run("exercise", b"a" + num(0) * 4 + b"s" + num(0) * 10 + num(24) + num(2048) + b"l" + octs(hx("31"))), "R 3\n")
 
 
 def entry(place):
     """An entry of the model's 32-bit table, by the FCS of a packet whose second octet looks it up."""
     before = register(b"1", 32)
     packet = bytes((0x31, before & 0xFF ^ place))
-    out = run("exercise", lend(LENT[32]) + open_sender(3, 32) + b"l" + octs(packet) + b"x\0" + num(2) + num(4))
+    out = run("exercise", lend(lent(32)) + open_sender(3, 32) + b"l" + octs(packet) + b"x\0" + num(2) + num(4))
     return int.from_bytes(bytes.fromhex(out.split("X")[1]), "little") ^ 0xFFFFFFFF ^ before >> 8
 
 
@@ -146,16 +150,44 @@ check("slip 1: all entries by the rule", [entry(place) for place in range(256)],
 check("slip 1: captures keep 16 bits", run("capture", hx("0E") + b"123456789" + hx("26 39 F4 CB 7E 05 31 31 31 31 7E")),
       "R 14\nR 14\n")
 
+# Slip 11, the agreed limit
+for opens, end in ((open_sender, "sender"), (open_receiver, "receiver")):
+    check(f"slip 11: {end}, 03, 24, limit 1 and 16,385", run("exercise", opens(3, 24, 1) + opens(3, 24, 16385)), "R 23\nR 23\n")
+    check(f"slip 11: {end}, 03, 24, limit 2", run("exercise", opens(3, 24, 2)), "R 3\n")
+    check(f"slip 11: {end}, limits 0, 1, 2, 16,384, 16,385 and 65,535, either width", run("exercise", b"".join(
+        opens(3, width, limit) for width in (16, 32) for limit in (0, 1, 2, 16384, 16385, 65535))), "R 23\n" * 8)
+
+
+def loaded(limit, *tried):
+    """What a fresh sender answers to loads: of each the length, and how many octets of the area are lent."""
+    return run("exercise", open_sender(3, 16, limit) + b"".join(
+        b"a" + num(area) + num(0) * 3 + b"l" + octs(b"1" * length) for length, area in tried)).split("\n")[:-1]
+
+
+check("slip 11: limit 2, loads", loaded(2, (2, 3), (3, 4), (2, 4)), ["R 2", "R 1", "D"])
+check("slip 11: limit 16,384, loads", loaded(16384, (16384, 16385), (16385, 16386), (16384, 16386)), ["R 2", "R 1", "D"])
+check("slip 11: limit 1, a load of 1, an area of 0",
+      run("exercise", b"a" + num(0) * 4 + b"s" + num(0) * 10 + num(16) + num(1) + b"l" + octs(hx("31"))), "R 3\n")
+for octets, report in ((hx("05 41 42 EF 31"), "P 0 2 41 42"), (hx("06 41 42 43 2F 9F"), "R 10"), (hx("D5"), "R 14"), (hx("D6"), "R 10")):
+    check(f"slip 11: limit 2, {octets.hex(' ')} 7E", received(3, octets + hx("7E"), 16, 2), [report])
+for width, most in ((16, 16387), (32, 16389)):
+    zeros = hx("DF") * 1092
+    check(f"slip 11: limit 16,384, {width} bits, {most} zeros, and one more", received(
+        3, zeros + bytes((0xD0 + most - 16380,)) + hx("7E") + zeros + bytes((0xD1 + most - 16380,)) + hx("7E"), width, 16384),
+        ["R 14", "R 10"])
+check("slip 11: captures keep 2,048", run("capture", hx("DF") * 136 + hx("DC 7E") + hx("DF") * 1092 + hx("D7 7E")), "R 10\nR 10\n")
+
 # Length bound: n + 1 + floor(n / 207) octets before the flag
+LENGTHS = (2, 201, 202, 203, 204, 205, 206, 410, 411, 412, 2046, 2047, 2048)
 for width in (16, 32):
-    for length in (2, 201, 202, 203, 204, 205, 206, 410, 411, 412, 2046, 2047, 2048):
+    for length, limit in [(length, 2048) for length in LENGTHS] + [(n, n) for n in (2, 3, 20, 203, 205, 2049, 16383, 16384)]:
         for settings in range(4):
-            for octets in (b"1" * length, bytes(length), (hx("00") + b"1" * 206) * 10):
-                text = sent(settings, octets[:length], width).split()
+            for octets in (b"1" * length, bytes(length), (hx("00") + b"1" * 206) * 80):
+                text = sent(settings, octets[:length], width, limit).split()
                 n = length + width // 8
                 if len(text) - 1 > n + 1 + n // 207:
                     check(f"bound {length} {settings} {width}", len(text) - 1, n + 1 + n // 207)
-                back = received(settings, bytes.fromhex("".join(text)), width)
+                back = received(settings, bytes.fromhex("".join(text)), width, limit)
                 if back != [f"P 0 {length}" + "".join(f" {o:02X}" for o in octets[:length])]:
                     check(f"way back {length} {settings} {width}", back, "the packet")
 print("bounds and ways back done")

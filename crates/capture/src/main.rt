@@ -1,10 +1,15 @@
 // The capture reader (document 01, "Display, tally, capture program"): raw octets of a line, a line for each report on standard output. Each file that it
-// is called with is a capture of its own. Both settings are on. A frame that is not closed prints nothing.
+// is called with is a capture of its own. It reads with document 01's settings (DECISIONS.md). A frame that is not closed prints nothing.
+ghost use mathlib.Core.Path.{_≡_};
 ghost use Prim.Native.Nat.{_≤_};
 ghost use lib.ListN.{length};
+ghost use Rattle.link.specs.Receiver.{openedReceiver};
+ghost use Rattle.link.specs.declared.receiver.Opening.the-variants.{Opened};
 ghost use Rattle.transcript.specs.Transcript.{longestLine};
 use files::Output;
 use libc::STDOUT_FILENO;
+use link::Settings;
+use link::receiver::Opening;
 use link::receiver::Receiver;
 
 fn main() {
@@ -30,6 +35,17 @@ fn capture(number: usize, output: Output) -> Output {
     after
 }
 
+// A receiver with document 01's settings, ZXE and PRE on. By its contract the opening is not refused.
+fn opened() -> Opening
+    ensures { λ r. ⌜ r ≡ Opened (openedReceiver (record { octet = 3; width = 16; limit = 2048 })) ⌝ }
+{
+    link::receiver::open(Settings {
+        octet: 3,
+        width: 16,
+        limit: 2048,
+    })
+}
+
 // The lines of a capture, from its first octet to its last.
 fn print(fd: i32, name: &[u8], output: Output) -> Output {
     let mut buffer = io::large_buffer();
@@ -42,10 +58,14 @@ fn print(fd: i32, name: &[u8], output: Output) -> Output {
     if !after.on {
         return after;
     }
+    let opening = opened();
+    let Opening::Opened(receiver) = opening else {
+        return after;
+    };
     let mut page = io::large_buffer();
     let mut first = [0u8; 2051];
     let mut second = [0u8; 2051];
-    let mut state = transcript::opened();
+    let mut state = receiver;
     let mut reads = u64::MAX;
     while reads > 0 {
         if got <= 0 {
@@ -81,7 +101,8 @@ fn write(
     second: &mut [u8],
     page: &mut [u8],
 ) -> Progress
-    requires { ⌜ longestLine ≤ length (now page) ⌝ }
+    requires { ⌜ longestLine (start .settings) ≤ length (now page) ⌝ }
+    ensures { λ r. ⌜ r .state .settings ≡ start .settings ⌝ }
 {
     let mut state = start;
     let mut at = 0usize;

@@ -1,8 +1,12 @@
 // Counts the reports of a capture: raw octets of a line, at its end the tally's thirteen counts on standard output, a line each. Each file that it is called
-// with is a capture of its own. Both settings are on, as in the capture reader.
+// with is a capture of its own. It reads with document 01's settings, as the capture reader does.
+ghost use mathlib.Core.Path.{_≡_};
+ghost use Rattle.link.specs.Receiver.{openedReceiver};
+ghost use Rattle.link.specs.declared.receiver.Opening.the-variants.{Opened};
 use files::Output;
 use libc::STDOUT_FILENO;
-use link::receiver::Receiver;
+use link::Settings;
+use link::receiver::Opening;
 use tally::Tally;
 
 fn main() {
@@ -35,6 +39,17 @@ fn capture(number: usize, output: Output) -> Output {
     after
 }
 
+// A receiver with document 01's settings, ZXE and PRE on. By its contract the opening is not refused.
+fn opened() -> Opening
+    ensures { λ r. ⌜ r ≡ Opened (openedReceiver (record { octet = 3; width = 16; limit = 2048 })) ⌝ }
+{
+    link::receiver::open(Settings {
+        octet: 3,
+        width: 16,
+        limit: 2048,
+    })
+}
+
 // A capture's counts. read: it could be read, at least in part.
 struct Counted {
     counts: Tally,
@@ -43,11 +58,18 @@ struct Counted {
 
 // The reports of a capture, from its first octet to its last.
 fn count(fd: i32, name: &[u8]) -> Counted {
+    let mut counts = tally::empty();
+    let opening = opened();
+    let Opening::Opened(receiver) = opening else {
+        return Counted {
+            counts,
+            read: false,
+        };
+    };
     let mut buffer = io::large_buffer();
     let mut first = [0u8; 2051];
     let mut second = [0u8; 2051];
-    let mut state = transcript::opened();
-    let mut counts = tally::empty();
+    let mut state = receiver;
     let mut got = libc::read(fd, &mut buffer);
     if got < 0 {
         unread(name);

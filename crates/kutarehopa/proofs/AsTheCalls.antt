@@ -12,7 +12,9 @@ use Rattle.fcs.specs.Notation.{if_then_else_}
 use Rattle.cobs.proofs.Tests.{branch, decide, true-false, false-true}
 use Rattle.link.specs.declared.Settings.{Settings}
 use Rattle.link.specs.declared.sender.Opening.{Opening as SenderOpening}
+use Rattle.link.specs.declared.sender.Opening.the-variants.{Opened as OpenedSender, Refused as SenderRefused}
 use Rattle.link.specs.declared.receiver.Opening.{Opening as ReceiverOpening}
+use Rattle.link.specs.declared.receiver.Opening.the-variants.{Opened as OpenedReceiver, Refused as ReceiverRefused}
 use Rattle.link.specs.Agreed.{agreed, valid}
 use Rattle.link.specs.Answers.{Answer, done, octet, idle, quiet, packet, held, refused, isQuiet}
 use Rattle.link.specs.declared.sender.Lane.{Lane}
@@ -29,7 +31,7 @@ use Rattle.link.proofs.Within.{refuses-frames}
 use Rattle.link.proofs.ReadOn.{after-quiet}
 use Rattle.link.proofs.ReceiverCases.{not-valid, too-short, out-of-bounds}
 use Rattle.link.proofs.SenderBounds.{load-answers, load-invalid, load-short, load-out-of-bounds, next-invalid, next-short, next-out-of-bounds}
-use Rattle.link.proofs.EachCall.{refused-changes-nothing, idle-changes-nothing}
+use Rattle.link.proofs.EachCall.{valid-first, refused-changes-nothing, idle-changes-nothing}
 use Rattle.reader.specs.Reading.{Reach, readOn}
 use Rattle.reader.proofs.Steps.{from-quiet, at-report, begins, ends}
 use Rattle.reader.proofs.NothingLost.{is-quiet}
@@ -265,7 +267,12 @@ runs-as-link =
 pub opened-is-packed : OpenedIsPacked
 unfolding openReceiver openSender
 opened-is-packed =
-    record { receiver = λ m settings v. rw v; sender = λ m settings v. rw v; noReceiver = λ m settings n. rw n; noSender = λ m settings n. rw n }
+    record {
+      receiver = λ m settings v. ap (receiverOpened m) (valid-first .receiverOpens settings v);
+      sender = λ m settings v. ap (senderOpened m) (valid-first .senderOpens settings v);
+      noReceiver = λ m settings n. ap (receiverOpened m);
+      noSender = λ m settings n. ap (senderOpened m);
+    }
 
 -- ---- octets that spell a state
 
@@ -641,18 +648,24 @@ module _ (m lowArea highArea : List ℕ) where
       ∙ wrote-rest (seen (next spelled-end) .answer) (onto (x ∷ xs) (writeOn (length (x ∷ xs)) spelled-end)))
       (λ n. rw (no-writer m lowArea highArea n (x ∷ xs) room))
 
+-- an opening, by its answer
+module _ (m : List ℕ) where
+  receiver-opened-rest : (o : ReceiverOpening) → drop 26 (receiverOpened m o .state) ≡ drop 26 m
+  receiver-opened-rest (OpenedReceiver r) = receiver-rest m r
+  receiver-opened-rest (ReceiverRefused n) = refl
+
+  sender-opened-rest : (o : SenderOpening) → drop 38 (senderOpened m o .state) ≡ drop 38 m
+  sender-opened-rest (OpenedSender s) = sender-rest m s
+  sender-opened-rest (SenderRefused n) = refl
+
 pub rest-stays : RestStays
 unfolding openReceiver openSender
 rest-stays =
     record {
-      openReceiver = λ m settings.
-          branch (λ (o : ReceiverOpening). drop 26 (receiverOpened m o .state) ≡ drop 26 m) (valid (agreed settings))
-          (λ _. receiver-rest m (receiver.openedReceiver settings)) (λ _. refl);
+      openReceiver = λ m settings. receiver-opened-rest m (receiver.openReceiver settings);
       receive = receive-rest;
       read = read-rest;
-      openSender = λ m settings.
-          branch (λ (o : SenderOpening). drop 38 (senderOpened m o .state) ≡ drop 38 m) (valid (agreed settings))
-          (λ _. sender-rest m (sender.openedSender settings)) (λ _. refl);
+      openSender = λ m settings. sender-opened-rest m (sender.openSender settings);
       load = load-rest;
       next = next-rest;
       write = write-rest;

@@ -6,10 +6,12 @@ use native.Mathlib.Omega.{arith}
 use lib.Dec.{eqb}
 use Rattle.fcs.specs.Notation.{if_then_else_}
 use Rattle.link.specs.Answers.{Answer, done, octet, idle, quiet, packet, held, refused}
-use Rattle.link.specs.Agreed.{agreed}
+use Rattle.cobs.proofs.Tests.{decide}
+use Rattle.link.specs.Agreed.{agreed, valid}
 use Rattle.link.specs.Receiver.{receive}
 use Rattle.link.specs.EachCall.{Within}
-use Rattle.link.proofs.Agreed.{limit-is, decoded-at-most}
+use Rattle.link.proofs.Agreed.{limit-at-most, decoded-at-most}
+use Rattle.link.proofs.EachCall.{valid-first}
 use Rattle.link.proofs.Within.{within, by-report}
 use Rattle.kutarehopa.specs.Numbers.{numbered, kind, mark, value, number, kindOf, markOf, valueOf, answerWith, NumbersComeApart, ReportsHaveNumbers}
 
@@ -51,17 +53,19 @@ numbers-come-apart a h =
 pub reports-have-numbers : ReportsHaveNumbers
 reports-have-numbers e x =
     let settings = e .state .settings in
-    by-report (λ (a : Answer). Within (agreed settings) a (receive e x .after) → value a < 0x10000) (λ w. omega arith)
-    (λ inSecond n w. omega (arith, w .1, limit-is settings))
-    (λ n replaced w. omega (arith, w, decoded-at-most settings))
+    decide (valid (agreed settings))
+    (λ v. by-report (λ (a : Answer). Within (agreed settings) a (receive e x .after) → value a < 0x10000) (λ w. omega arith)
+    (λ inSecond n w. omega (arith, w .1, limit-at-most (agreed settings) v))
+    (λ n replaced w. omega (arith, w, decoded-at-most settings v))
     (λ n w. omega (arith, w .1))
     e
     x
-    (within e x)
+    (within e x))
+    (λ n. rw (valid-first .receive e x n) (omega arith))
 
 -- ---- which answer it is
 
--- A number of a refusal (1 to 14) is no other answer's: of those with a value only packets and fragments come before it.
+-- A number of a refusal (1 to 14, 23) is no other answer's: of those with a value only packets and fragments come before it.
 module _ (n : ℕ) (small : n < 0x10000) where
   pub is-refused : (a : Answer) → ((inSecond : Bool) (k : ℕ) → a ≡ packet inSecond k → k < 0x10000) → ((k : ℕ) (replaced : Bool) → a ≡ held k replaced → k < 0x10000)
       → number a ≡ number (refused n) → a ≡ refused n

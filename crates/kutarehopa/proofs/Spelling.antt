@@ -96,7 +96,7 @@ receiver-spelled r m = rw (mark-small (r .turn), held-small (r .held), last-smal
 receiver-back : (r : Receiver) (m : List ℕ) → receiverIn (over (receiverOctets r) m) ≡ r
 unfolding receiverIn receiverOctets
 receiver-back r m =
-    rw (mark-back (r .turn), number-back (r .decoded), held-back (r .held), last-back (r .last), mark-back (r .framed), mark-back (r .resumed))
+    rw (number-back (r .settings .limit), mark-back (r .turn), number-back (r .decoded), held-back (r .held), last-back (r .last), mark-back (r .framed), mark-back (r .resumed))
 
 sender-spelled : (s : Sender) (m : List ℕ) → spellSender (over (senderOctets s) m) ≡ true
 unfolding spellSender senderOctets
@@ -109,6 +109,7 @@ sender-back s m =
       line-back (s .on),
       mark-back (s .suspended),
       mark-back (s .cut),
+      number-back (s .settings .limit),
       number-back (s .low .length),
       number-back (s .low .position),
       number-back (s .high .length),
@@ -153,6 +154,8 @@ module _ (m : List ℕ) (o : (i : ℕ) → octetAt m i < 256) where
       rw (
         h,
         eqb-true (octetAt m 0) 1 (t .0),
+        low-again (octetAt m 2) (octetAt m 3) (o 2),
+        high-again (octetAt m 2) (octetAt m 3) (o 2),
         mark-again (octetAt m 10) (t .1),
         low-again (octetAt m 11) (octetAt m 12) (o 11),
         high-again (octetAt m 11) (octetAt m 12) (o 11),
@@ -168,6 +171,8 @@ module _ (m : List ℕ) (o : (i : ℕ) → octetAt m i < 256) where
       rw (
         h,
         eqb-true (octetAt m 0) 1 (t .0),
+        low-again (octetAt m 2) (octetAt m 3) (o 2),
+        high-again (octetAt m 2) (octetAt m 3) (o 2),
         mark-again (octetAt m 10) (t .1),
         low-again (octetAt m 11) (octetAt m 12) (o 11),
         high-again (octetAt m 11) (octetAt m 12) (o 11),
@@ -182,6 +187,8 @@ module _ (m : List ℕ) (o : (i : ℕ) → octetAt m i < 256) where
   sender-again t =
       rw (
         eqb-true (octetAt m 0) 1 (t .0),
+        low-again (octetAt m 2) (octetAt m 3) (o 2),
+        high-again (octetAt m 2) (octetAt m 3) (o 2),
         line-again (octetAt m 5) (t .1),
         mark-again (octetAt m 6) (t .2),
         mark-again (octetAt m 7) (t .3),
@@ -212,6 +219,8 @@ module _ (m n : List ℕ) where
   abbrev SameReceiver : Type 0
   SameReceiver = (octetAt n 0 ≡ octetAt m 0)
       × (octetAt n 1 ≡ octetAt m 1)
+      × (octetAt n 2 ≡ octetAt m 2)
+      × (octetAt n 3 ≡ octetAt m 3)
       × (octetAt n 4 ≡ octetAt m 4)
       × (octetAt n 10 ≡ octetAt m 10)
       × (octetAt n 11 ≡ octetAt m 11)
@@ -225,14 +234,14 @@ module _ (m n : List ℕ) where
       × (octetAt n 25 ≡ octetAt m 25)
 
   same-receiver : (held : Bool) → octetsAt n (placesIfHeld held) ≡ octetsAt m (placesIfHeld held) → SameReceiver
-  same-receiver held e = let at = same-at (placesIfHeld held) e in (at 0, at 1, at 2, at 3, at 4, at 5, at 6, at 7, at 8, at 9, at 10, at 11, at 12)
+  same-receiver held e = let at = same-at (placesIfHeld held) e in (at 0, at 1, at 2, at 3, at 4, at 5, at 6, at 7, at 8, at 9, at 10, at 11, at 12, at 13, at 14)
 
   same-held : (held : Bool) → markAt m 13 ≡ held → octetsAt n (placesIfHeld held) ≡ octetsAt m (placesIfHeld held)
       → (if markAt m 13 then holds (octetAt n 14 + 256 * octetAt n 15) else nothingHeld) ≡ (if markAt m 13 then holds (octetAt m 14 + 256 * octetAt m 15) else nothingHeld)
   same-held true h e =
       let at = same-at (placesIfHeld true) e in
-      let low : octetAt n 14 ≡ octetAt m 14 = at 13 in
-      let high : octetAt n 15 ≡ octetAt m 15 = at 14 in
+      let low : octetAt n 14 ≡ octetAt m 14 = at 15 in
+      let high : octetAt n 15 ≡ octetAt m 15 = at 16 in
       rw (low, high)
   same-held false h e = rw h
 
@@ -240,13 +249,15 @@ module _ (m n : List ℕ) where
   unfolding spellReceiver receiverIn
   receiver-nowhere e =
       let p = same-receiver (markAt m 13) e in (
-        rw (p .0, p .3, p .6, p .9, p .10, p .11),
-        rw (p .1, p .2, p .3, p .4, p .5, p .6, p .7, p .8, p .9, p .10, p .11, p .12, same-held (markAt m 13) refl e),
+        rw (p .0, p .5, p .8, p .11, p .12, p .13),
+        rw (p .1, p .2, p .3, p .4, p .5, p .6, p .7, p .8, p .9, p .10, p .11, p .12, p .13, p .14, same-held (markAt m 13) refl e),
       )
 
   abbrev SameSender : Type 0
   SameSender = (octetAt n 0 ≡ octetAt m 0)
       × (octetAt n 1 ≡ octetAt m 1)
+      × (octetAt n 2 ≡ octetAt m 2)
+      × (octetAt n 3 ≡ octetAt m 3)
       × (octetAt n 4 ≡ octetAt m 4)
       × (octetAt n 5 ≡ octetAt m 5)
       × (octetAt n 6 ≡ octetAt m 6)
@@ -263,14 +274,14 @@ module _ (m n : List ℕ) where
       × (octetAt n 17 ≡ octetAt m 17)
 
   same-sender : octetsAt n senderPlaces ≡ octetsAt m senderPlaces → SameSender
-  same-sender e = let at = same-at senderPlaces e in (at 0, at 1, at 2, at 3, at 4, at 5, at 6, at 7, at 8, at 9, at 10, at 11, at 12, at 13, at 14, at 15)
+  same-sender e = let at = same-at senderPlaces e in (at 0, at 1, at 2, at 3, at 4, at 5, at 6, at 7, at 8, at 9, at 10, at 11, at 12, at 13, at 14, at 15, at 16, at 17)
 
   sender-nowhere : octetsAt n senderPlaces ≡ octetsAt m senderPlaces → (spellSender n ≡ spellSender m) × (senderIn n ≡ senderIn m)
   unfolding spellSender senderIn
   sender-nowhere e =
       let p = same-sender e in (
-        rw (p .0, p .3, p .4, p .5),
-        rw (p .1, p .2, p .3, p .4, p .5, p .6, p .7, p .8, p .9, p .10, p .11, p .12, p .13, p .14, p .15),
+        rw (p .0, p .5, p .6, p .7),
+        rw (p .1, p .2, p .3, p .4, p .5, p .6, p .7, p .8, p .9, p .10, p .11, p .12, p .13, p .14, p .15, p .16, p .17),
       )
 
 pub looks-nowhere-else : LooksNowhereElse

@@ -8,6 +8,8 @@ use lib.ListN.{length, take, drop, getD}
 use Rattle.fcs.specs.Notation.{if_then_else_}
 use Rattle.link.specs.declared.Settings.{Settings}
 use Rattle.link.specs.Agreed.{agreed, valid}
+use Rattle.link.specs.declared.sender.Opening.the-variants.{Refused as SenderRefused}
+use Rattle.link.specs.declared.receiver.Opening.the-variants.{Refused as ReceiverRefused}
 use Rattle.link.specs.Answers.{Answer, done, octet, idle, quiet, refused}
 use Rattle.link.specs.declared.sender.Lane.{Lane}
 use Rattle.link.specs.declared.sender.Lane.the-variants.{Low as low, High as high}
@@ -146,14 +148,16 @@ pub record RunsAsLink : Type 0 where
   pub lines : (e : SenderEnd) (m : List ℕ) (ss : List LineStep)
       → octetsOnLines (record { state = over (senderOctets (e .state)) m; low = e .low; high = e .high }) ss ≡ inPieces e (map programStep ss) .octets
 
--- An opened end is packed; settings that are not valid leave all octets.
+-- An opening that is refused, by whatever number, leaves all octets; an opened end is packed.
 pub record OpenedIsPacked : Type 0 where
+  pub noReceiver : (m : List ℕ) (settings : Settings) (n : ℕ) → receiver.openReceiver settings ≡ ReceiverRefused n
+      → openReceiver m settings ≡ record { answer = number (refused n); state = m }
+  pub noSender : (m : List ℕ) (settings : Settings) (n : ℕ) → sender.openSender settings ≡ SenderRefused n
+      → openSender m settings ≡ record { answer = number (refused n); state = m }
   pub receiver : (m : List ℕ) (settings : Settings) → valid (agreed settings) ≡ true
       → openReceiver m settings ≡ record { answer = number done; state = over (receiverOctets (receiver.openedReceiver settings)) m }
   pub sender : (m : List ℕ) (settings : Settings) → valid (agreed settings) ≡ true
       → openSender m settings ≡ record { answer = number done; state = over (senderOctets (sender.openedSender settings)) m }
-  pub noReceiver : (m : List ℕ) (settings : Settings) → valid (agreed settings) ≡ false → openReceiver m settings ≡ record { answer = number (refused 3); state = m }
-  pub noSender : (m : List ℕ) (settings : Settings) → valid (agreed settings) ≡ false → openSender m settings ≡ record { answer = number (refused 3); state = m }
 
 -- ---- on any octets
 

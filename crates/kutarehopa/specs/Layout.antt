@@ -5,7 +5,7 @@
 --   receiver                               sender
 --   0       1                              0       1
 --   1       width                          1       width
---   2-3     limit: 2,048                   2-3     limit: 2,048
+--   2-3     limit                          2-3     limit
 --   4       settings                       4       settings
 --   5       mode: 0                        5       lane on the line: 0 none, 1 low, 2 high
 --   6-9     map: 0                         6       suspended
@@ -63,7 +63,7 @@ markOctet false = 0
 
 -- the settings, of either end
 abbrev pub settingsIn : List ℕ → Settings
-settingsIn m = record { octet = octetAt m 4; width = octetAt m 1 }
+settingsIn m = record { octet = octetAt m 4; width = octetAt m 1; limit = numberAt m 2 }
 
 -- ---- the receiver
 
@@ -107,7 +107,7 @@ receiverIn m =
 -- and the octets of a state, from the first on
 unfoldable pub receiverOctets : Receiver → List ℕ
 receiverOctets r =
-    1 ∷ r .settings .width ∷ lowOctet 2048 ∷ highOctet 2048 ∷ r .settings .octet ∷ 0 ∷ 0 ∷ 0 ∷ 0 ∷ 0
+    1 ∷ r .settings .width ∷ lowOctet (r .settings .limit) ∷ highOctet (r .settings .limit) ∷ r .settings .octet ∷ 0 ∷ 0 ∷ 0 ∷ 0 ∷ 0
     ∷ markOctet (r .turn) ∷ lowOctet (r .decoded) ∷ highOctet (r .decoded)
     ∷ heldOctet (r .held) ∷ lowOctet (heldCount (r .held)) ∷ highOctet (heldCount (r .held)) ∷ 0 ∷ 0 ∷ 0 ∷ 0
     ∷ r .left ∷ r .zeros ∷ lastBlockOctet (r .last) ∷ markOctet (r .framed) ∷ markOctet (r .resumed) ∷ r .refusal ∷ []
@@ -140,7 +140,7 @@ senderIn m =
 
 unfoldable pub senderOctets : Sender → List ℕ
 senderOctets s =
-    1 ∷ s .settings .width ∷ lowOctet 2048 ∷ highOctet 2048 ∷ s .settings .octet
+    1 ∷ s .settings .width ∷ lowOctet (s .settings .limit) ∷ highOctet (s .settings .limit) ∷ s .settings .octet
     ∷ lineOctet (s .on) ∷ markOctet (s .suspended) ∷ markOctet (s .cut)
     ∷ lowOctet (s .low .length) ∷ highOctet (s .low .length) ∷ lowOctet (s .low .position) ∷ highOctet (s .low .position)
     ∷ lowOctet (s .high .length) ∷ highOctet (s .high .length) ∷ lowOctet (s .high .position) ∷ highOctet (s .high .position)

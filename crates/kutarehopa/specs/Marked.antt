@@ -3,7 +3,7 @@ use mathlib.Core.Bool.{true, false}
 use mathlib.Core.List.{[], _∷_, _++_}
 use mathlib.Core.Path.{_≡_}
 use lib.ListN.{replicate}
-use Rattle.link.specs.Agreed.{bits16, bits32}
+use Rattle.link.specs.Marked.{bits16}
 use Rattle.link.specs.Answers.{done, octet, idle, quiet, packet, held, refused}
 use Rattle.link.specs.declared.sender.Lane.the-variants.{Low as low, High as high}
 use Rattle.link.specs.declared.sender.OnLine.the-variants.{Sending as sending}
@@ -16,7 +16,7 @@ use Rattle.kutarehopa.specs.Layout.{spellReceiver, receiverIn, receiverO
 pub record MarkedOctets : Type 0 where
   -- a receiver with another value in each field
   pub receiver : receiverOctets (record {
-    settings = record { octet = 3; width = 16 };
+    settings = record { octet = 3; width = 16; limit = 0x0908 };
     turn = true;
     decoded = 0x0201;
     held = holds 0x0403;
@@ -27,11 +27,11 @@ pub record MarkedOctets : Type 0 where
     resumed = false;
     refusal = 7;
   })
-      ≡ 1 ∷ 16 ∷ 0 ∷ 8 ∷ 3 ∷ 0 ∷ 0 ∷ 0 ∷ 0 ∷ 0 ∷ 1 ∷ 1 ∷ 2 ∷ 1 ∷ 3 ∷ 4 ∷ 0 ∷ 0 ∷ 0 ∷ 0 ∷ 5 ∷ 6 ∷ 2 ∷ 1 ∷ 0 ∷ 7 ∷ []
+      ≡ 1 ∷ 16 ∷ 8 ∷ 9 ∷ 3 ∷ 0 ∷ 0 ∷ 0 ∷ 0 ∷ 0 ∷ 1 ∷ 1 ∷ 2 ∷ 1 ∷ 3 ∷ 4 ∷ 0 ∷ 0 ∷ 0 ∷ 0 ∷ 5 ∷ 6 ∷ 2 ∷ 1 ∷ 0 ∷ 7 ∷ []
   pub anotherReceiver : receiverOctets (record {
-    settings = record { octet = 0xFF; width = 32 };
+    settings = record { octet = 0xFF; width = 32; limit = 16384 };
     turn = false;
-    decoded = 2051;
+    decoded = 16389;
     held = nothingHeld;
     left = 207;
     zeros = 2;
@@ -40,10 +40,10 @@ pub record MarkedOctets : Type 0 where
     resumed = true;
     refusal = 10;
   })
-      ≡ 1 ∷ 32 ∷ 0 ∷ 8 ∷ 0xFF ∷ 0 ∷ 0 ∷ 0 ∷ 0 ∷ 0 ∷ 0 ∷ 3 ∷ 8 ∷ 0 ∷ 0 ∷ 0 ∷ 0 ∷ 0 ∷ 0 ∷ 0 ∷ 207 ∷ 2 ∷ 1 ∷ 0 ∷ 1 ∷ 10 ∷ []
+      ≡ 1 ∷ 32 ∷ 0 ∷ 0x40 ∷ 0xFF ∷ 0 ∷ 0 ∷ 0 ∷ 0 ∷ 0 ∷ 0 ∷ 5 ∷ 0x40 ∷ 0 ∷ 0 ∷ 0 ∷ 0 ∷ 0 ∷ 0 ∷ 0 ∷ 207 ∷ 2 ∷ 1 ∷ 0 ∷ 1 ∷ 10 ∷ []
   -- and such a sender
   pub sender : senderOctets (record {
-    settings = record { octet = 3; width = 32 };
+    settings = record { octet = 3; width = 32; limit = 0x0C0B };
     on = sending high;
     suspended = true;
     cut = false;
@@ -52,9 +52,9 @@ pub record MarkedOctets : Type 0 where
     left = 9;
     zeros = 10;
   })
-      ≡ 1 ∷ 32 ∷ 0 ∷ 8 ∷ 3 ∷ 2 ∷ 1 ∷ 0 ∷ 1 ∷ 2 ∷ 3 ∷ 4 ∷ 5 ∷ 6 ∷ 7 ∷ 8 ∷ 9 ∷ 10 ∷ replicate 20 0
+      ≡ 1 ∷ 32 ∷ 0x0B ∷ 0x0C ∷ 3 ∷ 2 ∷ 1 ∷ 0 ∷ 1 ∷ 2 ∷ 3 ∷ 4 ∷ 5 ∷ 6 ∷ 7 ∷ 8 ∷ 9 ∷ 10 ∷ replicate 20 0
   pub anotherSender : senderOctets (record {
-    settings = record { octet = 0; width = 16 };
+    settings = record { octet = 0; width = 16; limit = 2 };
     on = sending low;
     suspended = false;
     cut = true;
@@ -63,14 +63,16 @@ pub record MarkedOctets : Type 0 where
     left = 0;
     zeros = 0;
   })
-      ≡ 1 ∷ 16 ∷ 0 ∷ 8 ∷ 0 ∷ 1 ∷ 0 ∷ 1 ∷ 4 ∷ 0 ∷ 5 ∷ 0 ∷ replicate 26 0
+      ≡ 1 ∷ 16 ∷ 2 ∷ 0 ∷ 0 ∷ 1 ∷ 0 ∷ 1 ∷ 4 ∷ 0 ∷ 5 ∷ 0 ∷ replicate 26 0
   -- opened, in memory that held something else; and not
   pub openedReceiver : openReceiver (replicate 64 0xAA) (bits16 3)
       ≡ record { answer = 0x04000000; state = 1 ∷ 16 ∷ 0 ∷ 8 ∷ 3 ∷ (replicate 21 0 ++ replicate 38 0xAA) }
-  pub openedSender : openSender (replicate 64 0xAA) (bits32 2)
-      ≡ record { answer = 0x04000000; state = 1 ∷ 32 ∷ 0 ∷ 8 ∷ 2 ∷ (replicate 33 0 ++ replicate 26 0xAA) }
-  pub refusedReceiver : openReceiver (replicate 64 0xAA) (record { octet = 3; width = 24 }) ≡ record { answer = 0x03000003; state = replicate 64 0xAA }
-  pub refusedSender : openSender (replicate 64 0xAA) (record { octet = 3; width = 0 }) ≡ record { answer = 0x03000003; state = replicate 64 0xAA }
+  pub openedSender : openSender (replicate 64 0xAA) (record { octet = 2; width = 32; limit = 16384 })
+      ≡ record { answer = 0x04000000; state = 1 ∷ 32 ∷ 0 ∷ 0x40 ∷ 2 ∷ (replicate 33 0 ++ replicate 26 0xAA) }
+  pub refusedReceiver : openReceiver (replicate 64 0xAA) (record { octet = 3; width = 24; limit = 2 })
+      ≡ record { answer = 0x03000003; state = replicate 64 0xAA }
+  pub refusedSender : openSender (replicate 64 0xAA) (record { octet = 3; width = 0; limit = 16385 })
+      ≡ record { answer = 0x03000017; state = replicate 64 0xAA }
   -- memory of zeros is no state
   pub noReceiver : spellReceiver (replicate 64 0) ≡ false
   pub noSender : spellSender (replicate 64 0) ≡ false

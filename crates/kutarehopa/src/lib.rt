@@ -50,6 +50,7 @@ pub(crate) fn settings_in(state: &[u8; 64]) -> Settings
     Settings {
         octet: state[4],
         width: state[1],
+        limit: number(state[2], state[3]),
     }
 }
 
@@ -85,12 +86,18 @@ fn short_for_sender(settings: Settings, low: usize, high: usize) -> bool
 // ---- the receiver
 
 #[no_mangle]
-pub extern "C" fn kuta_receiver_open(state: &mut [u8; 64], settings: u8, width: u8) -> u32
-    ensures { λ r. ⌜ record { answer = r; state = now (state .exit) } ≡ openReceiver (now (state .entry)) (record { octet = settings; width = width }) ⌝ }
+pub extern "C" fn kuta_receiver_open(
+    state: &mut [u8; 64],
+    settings: u8,
+    width: u8,
+    limit: u16,
+) -> u32
+    ensures { λ r. ⌜ record { answer = r; state = now (state .exit) } ≡ openReceiver (now (state .entry)) (record { octet = settings; width = width; limit = limit }) ⌝ }
 {
     let opening = link::receiver::open(Settings {
         octet: settings,
         width,
+        limit,
     });
     match opening {
         link::receiver::Opening::Opened(opened) => {
@@ -193,12 +200,13 @@ pub extern "C" fn kuta_read_on(
 // ---- the sender
 
 #[no_mangle]
-pub extern "C" fn kuta_sender_open(state: &mut [u8; 64], settings: u8, width: u8) -> u32
-    ensures { λ r. ⌜ record { answer = r; state = now (state .exit) } ≡ openSender (now (state .entry)) (record { octet = settings; width = width }) ⌝ }
+pub extern "C" fn kuta_sender_open(state: &mut [u8; 64], settings: u8, width: u8, limit: u16) -> u32
+    ensures { λ r. ⌜ record { answer = r; state = now (state .exit) } ≡ openSender (now (state .entry)) (record { octet = settings; width = width; limit = limit }) ⌝ }
 {
     let opening = link::sender::open(Settings {
         octet: settings,
         width,
+        limit,
     });
     match opening {
         link::sender::Opening::Opened(opened) => {

@@ -83,8 +83,8 @@ pub(crate) fn pack(state: &mut [u8; 64], s: Sender)
     let lane = line_octet(on);
     state[0] = 1;
     state[1] = settings.width;
-    state[2] = 0;
-    state[3] = 8;
+    state[2] = (settings.limit % 256) as u8;
+    state[3] = (settings.limit / 256) as u8;
     state[4] = settings.octet;
     state[5] = lane;
     state[6] = s.suspended as u8;

@@ -23,6 +23,7 @@ use Rattle.link.specs.Receiver as receiver
 use Rattle.link.specs.EachCall.{RefusedChangesNothing, IdleChangesNothing, Loads, DoneLoads, SettingsStay, ClosedIsEmpty, TakesIn, BlockOver, Resumes, HeldThen, NotHeldThen, EndsFrame, ReceivesSo, ValidFirst, AreasThenState}
 use Rattle.link.proofs.Tests.{if-so, if-not, not-below, one-short, none-short}
 use Rattle.link.proofs.Way.{Way, ends, cuts, warns, goes, sender, Turn, cut·due, idles, resumes·low, begins·high, begins·low, high·on, low·on, by-next}
+use Rattle.link.proofs.Agreed.{valid-width, valid-limit}
 use Rattle.link.proofs.Write.{length-write, take-write}
 use Rattle.link.proofs.ReceiverBounds as heard
 use Rattle.link.proofs.ReceiverCases.{not-valid, too-short, out-of-bounds}
@@ -187,13 +188,15 @@ hears h = h .report
 pub valid-first : ValidFirst
 valid-first =
     record {
-      senderRefused = λ t n. rw n;
-      receiverRefused = λ t n. rw n;
+      senderLimit = λ t n. rw n;
+      receiverLimit = λ t n. rw n;
+      senderWidth = λ t l w. rw (l, w);
+      receiverWidth = λ t l w. rw (l, w);
       load = λ l p s area n. ap loads (sent.load-invalid l p s area n);
       next = λ e n. ap sends (sent.next-invalid e n);
       receive = λ e x n. ap hears (not-valid e x n);
-      senderOpens = λ t v. rw v;
-      receiverOpens = λ t v. rw v;
+      senderOpens = λ t v. rw (valid-limit (agreed t) v, valid-width (agreed t) v);
+      receiverOpens = λ t v. rw (valid-limit (agreed t) v, valid-width (agreed t) v);
     }
 
 pub areas-then-state : AreasThenState

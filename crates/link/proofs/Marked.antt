@@ -15,7 +15,7 @@ use Rattle.cobs.specs.CodeBlocks.{flag, inRange, codeTable, meaning, toLine, fr
 use Rattle.cobs.proofs.Tests.{branch, decide}
 use Rattle.cobs.proofs.Exchange.{from-line}
 use Rattle.cobs.proofs.Table.{run-row, row-read}
-use Rattle.link.specs.Agreed.{Agreed, agreed, leastFrame, mostDecoded, Settings, bits16, bits32, valid}
+use Rattle.link.specs.Agreed.{Agreed, agreed, leastFrame, mostDecoded, Settings, valid}
 use Rattle.link.specs.Answers.{refused}
 use Rattle.link.specs.Sender.{putFrame, load, step4BreakOff, step5Data, step6Code, steps3To6, step2NoLane, steps1To6, next}
 use Rattle.link.specs.Sender as sender
@@ -23,7 +23,8 @@ use Rattle.link.specs.Receiver.{Working, ReceiverEnd, Receive, Ended, is
 use Rattle.link.specs.Receiver as receiver
 use Rattle.link.specs.Runs.{afterLoad, afterNext, run, written, receives, notQuiet, received, underWay, leftAside}
 use Rattle.link.specs.Demands.{freshReceiver}
-use Rattle.link.specs.Marked.{Case, refusedTen, Says, receiverArea, cases, MarkedCases, AtWork, freshEnd}
+use Rattle.link.specs.Marked.{bits16, Case, refusedTen, Says, receiverArea, cases, MarkedCases, AtWork, freshEnd}
+use Rattle.link.specs.Examples.{agreeing, bits32}
 use Rattle.link.proofs.Tests.{if-so, if-not, true-false}
 use Rattle.link.proofs.ReceiverBounds.{Ready, receive-flag, receive-other, receive-ready}
 use Rattle.link.proofs.Follow.{steps-code, code-is}
@@ -129,56 +130,75 @@ module _ (g : Agreed) (e : ReceiverEnd) (z : Ready g e) where
       (λ _ q. let n : _≡_ {A = ℕ} 14 10 = cc in omega arith)))))))
       (λ _ q. let n : _≡_ {A = ℕ} 0 1 = cc in omega arith))
 
--- 136 runs of 15 zeros, from a fresh receiver with ZXE, and z zeros more
-module _ (t : Settings) (v : valid (agreed t) ≡ true) (zxe : agreed t .zxe ≡ true) (room : 2040 ≤ mostDecoded (agreed t)) (z : ℕ) (least : 3 ≤ z) (most : z ≤ 15) where
+-- m runs of 15 zeros, from a fresh receiver with ZXE, and z zeros more
+module _ (m : ℕ) (t : Settings) (v : valid (agreed t) ≡ true) (zxe : agreed t .zxe ≡ true) (room : 15 * m ≤ mostDecoded (agreed t)) (z : ℕ) (least : 3 ≤ z)
+    (most : z ≤ 15) where
   abbrev g : Agreed
   g = agreed t
 
   abbrev line : List ℕ
-  line = replicate 136 0xDF
+  line = replicate m 0xDF
 
   long-enough : mostDecoded g ≤ length (receiverArea t)
   long-enough = omega (arith, length-replicate {A = ℕ} (mostDecoded g) 0)
 
-  many : Decoded g 2040 (received (freshEnd t) line)
+  many : Decoded g (15 * m) (received (freshEnd t) line)
   many =
-      runs g zxe 136 0 (freshEnd t) (omega arith)
-      (record { ready = ready-fresh t v (receiverArea t) (receiverArea t) long-enough long-enough; clean = refl; left·0 = refl; count = refl })
+      subst (λ (k : ℕ). Decoded g k (received (freshEnd t) line)) (omega arith)
+      (runs g zxe m 0 (freshEnd t) (omega arith)
+      (record { ready = ready-fresh t v (receiverArea t) (receiverArea t) long-enough long-enough; clean = refl; left·0 = refl; count = refl }))
 
-  within : 2040 + z ≤ mostDecoded g → Says (refusedTen t (line ++ ((0xD0 + z) ∷ [])) false)
+  within : 15 * m + z ≤ mostDecoded g → Says (refusedTen t (line ++ ((0xD0 + z) ∷ [])) false)
   within h =
       let e = received (freshEnd t) line in
-      let d = run-on g zxe 2040 z least most e many (omega arith) in
+      let d = run-on g zxe (15 * m) z least most e many (omega arith) in
       rw (then (freshEnd t) line (0xD0 + z)) (not-ten g (receive e (0xD0 + z) .after) (d .ready) (d .clean))
 
-  over : mostDecoded g < 2040 + z → Says (refusedTen t (line ++ ((0xD0 + z) ∷ [])) true)
+  over : mostDecoded g < 15 * m + z → Says (refusedTen t (line ++ ((0xD0 + z) ∷ [])) true)
   over h =
       let e = received (freshEnd t) line in
       rw (then (freshEnd t) line (0xD0 + z))
       (told-refusal g (receive e (0xD0 + z) .after) (receive-ready g e (0xD0 + z) (many .ready)) 9
-      (run-over g zxe 2040 z least most e many (omega arith)))
+      (run-over g zxe (15 * m) z least most e many (omega arith)))
 
 -- 2,051 octets, and more, with 16 bits; 137 times DF, for the examples
 h·DB : Says (refusedTen (bits16 0x03) (replicate 136 0xDF ++ (0xDB ∷ [])) false)
 unfolding agreed valid
-h·DB = within (bits16 0x03) refl refl (omega arith) 11 (omega arith) (omega arith) (omega arith)
+h·DB = within 136 (bits16 0x03) refl refl (omega arith) 11 (omega arith) (omega arith) (omega arith)
 
 h·DC : Says (refusedTen (bits16 0x03) (replicate 136 0xDF ++ (0xDC ∷ [])) true)
 unfolding agreed valid
-h·DC = over (bits16 0x03) refl refl (omega arith) 12 (omega arith) (omega arith) (omega arith)
+h·DC = over 136 (bits16 0x03) refl refl (omega arith) 12 (omega arith) (omega arith) (omega arith)
 
 pub many-over : Says (refusedTen (bits16 0x03) (replicate 137 0xDF) true)
 unfolding agreed valid
-many-over = over (bits16 0x03) refl refl (omega arith) 15 (omega arith) (omega arith) (omega arith)
+many-over = over 136 (bits16 0x03) refl refl (omega arith) 15 (omega arith) (omega arith) (omega arith)
 
 -- 2,053 and one more with 32 bits, for the examples
 pub most32 : Says (refusedTen (bits32 0x03) (replicate 136 0xDF ++ (0xDD ∷ [])) false)
 unfolding agreed valid
-most32 = within (bits32 0x03) refl refl (omega arith) 13 (omega arith) (omega arith) (omega arith)
+most32 = within 136 (bits32 0x03) refl refl (omega arith) 13 (omega arith) (omega arith) (omega arith)
 
 pub over32 : Says (refusedTen (bits32 0x03) (replicate 136 0xDF ++ (0xDE ∷ [])) true)
 unfolding agreed valid
-over32 = over (bits32 0x03) refl refl (omega arith) 14 (omega arith) (omega arith) (omega arith)
+over32 = over 136 (bits32 0x03) refl refl (omega arith) 14 (omega arith) (omega arith) (omega arith)
+
+-- limit 16,384: 16,387 octets with 16 bits, 16,389 with 32, and one more, for the examples
+pub largest16 : Says (refusedTen (agreeing 16 16384) (replicate 1092 0xDF ++ (0xD7 ∷ [])) false)
+unfolding agreed valid
+largest16 = within 1092 (agreeing 16 16384) refl refl (omega arith) 7 (omega arith) (omega arith) (omega arith)
+
+pub above16 : Says (refusedTen (agreeing 16 16384) (replicate 1092 0xDF ++ (0xD8 ∷ [])) true)
+unfolding agreed valid
+above16 = over 1092 (agreeing 16 16384) refl refl (omega arith) 8 (omega arith) (omega arith) (omega arith)
+
+pub largest32 : Says (refusedTen (agreeing 32 16384) (replicate 1092 0xDF ++ (0xD9 ∷ [])) false)
+unfolding agreed valid
+largest32 = within 1092 (agreeing 32 16384) refl refl (omega arith) 9 (omega arith) (omega arith) (omega arith)
+
+pub above32 : Says (refusedTen (agreeing 32 16384) (replicate 1092 0xDF ++ (0xDA ∷ [])) true)
+unfolding agreed valid
+above32 = over 1092 (agreeing 32 16384) refl refl (omega arith) 10 (omega arith) (omega arith) (omega arith)
 
 -- ---- the table
 

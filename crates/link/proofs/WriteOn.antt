@@ -69,21 +69,21 @@ module _ (n : ℕ) (e : SenderEnd) where
       → record { answer = octet (toLine (getD (laneArea l e) (laneState l s .position) 0)); state = sent 1 l s } ≡ seen (next e)
   first low h =
       let b = h .ready in
-      let r = low-on s (b .bounds) (e .low) (b .low) (h .on) in
+      let r = low-on s (b .valid) (b .bounds) (e .low) (b .low) (h .on) in
       let short = none-short _ _ _ (b .low, b .high) in
       sym (ap seen (low-sends e (b .valid) short (b .bounds) (omega (arith, h .more)) (h .on) (h .alone refl))
       ∙ data-sent low _ (e .low) (omega (arith, h .more)) (D.before (s .low .length) (e .low) (s .low .position) (omega (arith, h .more, r .inD))))
   first high h =
       let b = h .ready in
-      let r = high-on s (b .bounds) (e .high) (b .high) (h .on) in
+      let r = high-on s (b .valid) (b .bounds) (e .high) (b .high) (h .on) in
       let short = none-short _ _ _ (b .low, b .high) in
       sym (ap seen (high-sends e (b .valid) short (b .bounds) (omega (arith, h .more)) (h .on))
       ∙ data-sent high _ (e .high) (omega (arith, h .more)) (D.before (s .high .length) (e .high) (s .high .position) (omega (arith, h .more, r .inD))))
 
   -- the place is inside the area
   pub inside : (l : Lane) → Stretch l (suc n) e → laneState l s .position < length (laneArea l e)
-  inside low h = let r = low-on s (h .ready .bounds) (e .low) (h .ready .low) (h .on) in omega (arith, h .more, r .inD, r .short, r .long)
-  inside high h = let r = high-on s (h .ready .bounds) (e .high) (h .ready .high) (h .on) in omega (arith, h .more, r .inD, r .short, r .long)
+  inside low h = let r = low-on s (h .ready .valid) (h .ready .bounds) (e .low) (h .ready .low) (h .on) in omega (arith, h .more, r .inD, r .short, r .long)
+  inside high h = let r = high-on s (h .ready .valid) (h .ready .bounds) (e .high) (h .ready .high) (h .on) in omega (arith, h .more, r .inD, r .short, r .long)
 
   pub rest : (l : Lane) → Stretch l (suc n) e → Stretch l n (record { state = sent 1 l s; low = e .low; high = e .high })
   rest l h =
@@ -108,5 +108,5 @@ plain x = ne-eqb (toLine x) flag (no-flag x)
 
 -- a block that is inside its lane's area
 pub block-in-area : (l : Lane) (e : SenderEnd) → SenderReady e → e .state .on ≡ sending l → laneState l (e .state) .position + e .state .left ≤ mostDecoded (agreed (e .state .settings))
-block-in-area low e b o = let r = low-on (e .state) (b .bounds) (e .low) (b .low) o in omega (arith, r .inD, r .short)
-block-in-area high e b o = let r = high-on (e .state) (b .bounds) (e .high) (b .high) o in omega (arith, r .inD, r .short)
+block-in-area low e b o = let r = low-on (e .state) (b .valid) (b .bounds) (e .low) (b .low) o in omega (arith, r .inD, r .short)
+block-in-area high e b o = let r = high-on (e .state) (b .valid) (b .bounds) (e .high) (b .high) o in omega (arith, r .inD, r .short)

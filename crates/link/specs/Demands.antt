@@ -46,8 +46,8 @@ pub record PacketsComeThrough (replaces : Bool) (es : List Written) (hs : List R
   pub packets : packetsIn hs ≡ closedPackets es
   pub refusals : refusalsIn hs ≡ []
 
--- Demand 2, any list of calls: between fresh ends of the same settings, octet and width, every closed packet is reported at its closing flag,
--- in order, nothing is refused, and no fragment takes another's place. No octet and no report is left out.
+-- Demand 2, any list of calls: between fresh ends of the same settings, octet, width and limit, every closed packet is reported at its closing
+-- flag, in order, nothing is refused, and no fragment takes another's place. No octet and no report is left out.
 abbrev pub SoundLine : Settings → Type 0
 SoundLine settings =
     (low high first second : List ℕ)
@@ -129,7 +129,7 @@ pub record AfterChosenFlag (upTo : List Written) (w : Station) (e : ReceiverEnd)
 --   any octets on the line before that flag: `noise`
 --   the flag and all octets written after it arrive, once each and in order: the receiver's calls are for the flag and for those of `es`
 --   nobody else writes state or areas: each call has them as the call before left them
---   both ends have the same settings, octet and width: both are opened with them
+--   both ends have the same settings, octet, width and limit: both are opened with them
 --   the receiver's areas are long enough for its calls to be taken; were the sender's too short, no flag would be written
 --   the packet suspended at the flag is one that had sent an octet by then and is not closed: at the flags that end its frames, up to and
 --   with its closing flag, what is reported is left aside

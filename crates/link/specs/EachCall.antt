@@ -10,7 +10,7 @@ use lib.ListN.{length, take, drop}
 use Rattle.fcs.specs.Notation.{if_then_else_}
 use Rattle.fcs.specs.CheckSequence.{good}
 use Rattle.cobs.specs.CodeBlocks.{frame, flag, fromLine}
-use Rattle.link.specs.Agreed.{Settings, Agreed, agreed, valid, leastPacket, largestFrame, mostDecoded}
+use Rattle.link.specs.Agreed.{Settings, Agreed, agreed, validWidth, validLimit, valid, leastPacket, largestFrame, mostDecoded}
 use Rattle.link.specs.Answers.{Answer, done, octet, idle, quiet, packet, held, refused}
 use Rattle.link.specs.Sender.{Lane, noLane, Sender, SenderEnd, Load, closes, emptyLane, openedSender, openSender, laneState, withLane, outAnswer, load, next}
 use Rattle.link.specs.Receiver.{Fragment, nothingHeld, holds, noBlock, Receiver, ReceiverEnd, Receive, outOfFrame, openedReceiver, openReceiver, isHeld, areaOf, receive}
@@ -20,11 +20,15 @@ use Rattle.link.specs.ReceiverParts.{ReceiverReady}
 
 -- ---- the order of the tests
 
--- Settings that are not valid: the opening of an end is refused 3, and so is every call on a state that has them, whatever else it is handed.
--- Any other settings open an end.
+-- Settings that are not valid: the opening of an end is refused 23 of the limit, whatever the width, and else 3 of the width; and every call
+-- on a state that has them is refused 3, whatever else it is handed. Any other settings open an end.
 pub record ValidFirst : Type 0 where
-  pub senderRefused : (settings : Settings) → valid (agreed settings) ≡ false → openSender settings ≡ sender.refusedOpening 3
-  pub receiverRefused : (settings : Settings) → valid (agreed settings) ≡ false → openReceiver settings ≡ receiver.refusedOpening 3
+  pub senderLimit : (settings : Settings) → validLimit (agreed settings) ≡ false → openSender settings ≡ sender.refusedOpening 23
+  pub receiverLimit : (settings : Settings) → validLimit (agreed settings) ≡ false → openReceiver settings ≡ receiver.refusedOpening 23
+  pub senderWidth : (settings : Settings) → validLimit (agreed settings) ≡ true → validWidth (agreed settings) ≡ false
+      → openSender settings ≡ sender.refusedOpening 3
+  pub receiverWidth : (settings : Settings) → validLimit (agreed settings) ≡ true → validWidth (agreed settings) ≡ false
+      → openReceiver settings ≡ receiver.refusedOpening 3
   pub load : (l : Lane) (p : List ℕ) (s : Sender) (area : List ℕ) → valid (agreed (s .settings)) ≡ false → load l p s area .answer ≡ refused 3
   pub next : (e : SenderEnd) → valid (agreed (e .state .settings)) ≡ false → outAnswer (next e .out) ≡ refused 3
   pub receive : (e : ReceiverEnd) (x : ℕ) → valid (agreed (e .state .settings)) ≡ false → receive e x .report ≡ refused 3

@@ -1,16 +1,16 @@
 -- Settings, codes, bounds and refusals, by example (document 01, "Code blocks", "Refusal table", and "Receiver" on what is held; document 02,
--- slip 1): one more table beside the marked cases, and three sentences that are general.
+-- slips 1 and 11): one more table beside the marked cases, and three sentences that are general.
 use mathlib.Core.Path.{_≡_}
 use mathlib.Core.Bool.{Bool, true, false, _&&_}
 use mathlib.Core.List.{List, [], _∷_, _++_, List·Memᴰ}
-use Prim.Native.Nat.{ℕ, _+_, _-_, _*_, _≤_}
+use Prim.Native.Nat.{ℕ, _+_, _-_, _*_, _≤_, _<_}
 use lib.Dec.{leb}
 use lib.ListN.{length, replicate}
 use Rattle.fcs.specs.Notation.{if_then_else_}
 use Rattle.cobs.specs.CodeBlocks.{flag, meaning}
 use Rattle.cobs.specs.declared.Meaning.{Meaning}
 use Rattle.cobs.specs.declared.Meaning.the-variants.{InTable, NotAgreed, NoCode}
-use Rattle.link.specs.Agreed.{Settings, bits16, bits32, agreed, valid, leastPacket, leastFrame, largestFrame, mostDecoded}
+use Rattle.link.specs.Agreed.{Settings, agreed, validWidth, validLimit, valid, leastPacket, leastFrame, largestFrame, mostDecoded}
 use Rattle.link.specs.Answers.{Answer, done, octet, quiet, refused}
 use Rattle.link.specs.Sender.{Lane, low, high, sending, Sender, SenderEnd, laneState, openedSender, openSender, withLane, withBlock, withLine, withMarks, outAnswer, inBounds, load, next}
 use Rattle.link.specs.Receiver.{Fragment, nothingHeld, holds, LastBlock, noBlock, blockD0, otherBlock, Receiver, ReceiverEnd, openedReceiver, openReceiver, outOfFrame, withDecoded, withDue, inFrame, receive}
@@ -19,29 +19,37 @@ use Rattle.link.specs.Receiver as receiver
 use Rattle.link.specs.Runs.{SenderCall, loading, nextOctet, freshStation, run, senderAnswers, written, writtenOctets, received}
 use Rattle.link.specs.Progress.{callsToEmpty}
 use Rattle.link.specs.Demands.{freshReceiver}
-use Rattle.link.specs.Marked.{Case, sent, reported, refusedTen, chosen, receiverArea, freshSender, freshEnd, packetOf, heldOf, refusedBy, digits}
+use Rattle.link.specs.Marked.{bits16, Case, sent, reported, refusedTen, chosen, receiverArea, freshSender, freshEnd, packetOf, heldOf, refusedBy, digits}
 use Rattle.link.specs.Marked as marked
 
 -- ---- general sentences
 
 -- of the settings octet only 01 and 02 are looked at
 abbrev pub OtherBitsIgnored : Type 0
-OtherBitsIgnored = (octet width n : ℕ) → agreed (record { octet = octet + 4 * n; width = width }) ≡ agreed (record { octet = octet; width = width })
+OtherBitsIgnored =
+    (octet width limit n : ℕ)
+    → agreed (record { octet = octet + 4 * n; width = width; limit = limit }) ≡ agreed (record { octet = octet; width = width; limit = limit })
 
--- the numbers of valid settings: the least frame, the largest one, and what is decoded at the most
-pub record Numbers (settings : Settings) (leastOctets largestOctets mostOctets : ℕ) : Type 0 where
+-- the lengths that follow from valid settings: of the least frame, of the largest one, and of what is decoded at the most
+pub record Lengths (settings : Settings) (leastOctets largestOctets mostOctets : ℕ) : Type 0 where
   pub taken : valid (agreed settings) ≡ true
   pub least : leastPacket ≡ 2
-  pub most : agreed settings .limit ≡ 2048
+  pub most : agreed settings .limit ≡ settings .limit
   pub leastFrame : leastFrame (agreed settings) ≡ leastOctets
   pub largestFrame : largestFrame (agreed settings) ≡ largestOctets
   pub mostDecoded : mostDecoded (agreed settings) ≡ mostOctets
 
--- those of 16 and of 32 bits, whatever the settings octet; there is no other width
-pub record Limits : Type 0 where
-  pub of16 : (octet : ℕ) → Numbers (bits16 octet) 4 2050 2051
-  pub of32 : (octet : ℕ) → Numbers (bits32 octet) 6 2052 2053
-  pub others : (settings : Settings) → (settings .width ≡ 16 → ⊥) → (settings .width ≡ 32 → ⊥) → valid (agreed settings) ≡ false
+-- Those of 16 and of 32 bits, whatever the settings octet, with any limit from 2 to 16,384; there is no other width and no other limit. Whether
+-- the limit is in range does not hang on the width.
+pub record AgreedLengths : Type 0 where
+  pub of16 : (octet limit : ℕ) → 2 ≤ limit → limit ≤ 16384 → Lengths (record { octet = octet; width = 16; limit = limit }) 4 (limit + 2) (limit + 3)
+  pub of32 : (octet limit : ℕ) → 2 ≤ limit → limit ≤ 16384 → Lengths (record { octet = octet; width = 32; limit = limit }) 6 (limit + 4) (limit + 5)
+  pub otherWidth : (settings : Settings) → (settings .width ≡ 16 → ⊥) → (settings .width ≡ 32 → ⊥) → validWidth (agreed settings) ≡ false
+  pub below : (settings : Settings) → settings .limit < 2 → validLimit (agreed settings) ≡ false
+  pub above : (settings : Settings) → 16384 < settings .limit → validLimit (agreed settings) ≡ false
+  pub inRange : (settings : Settings) → 2 ≤ settings .limit → settings .limit ≤ 16384 → validLimit (agreed settings) ≡ true
+  pub wrongWidth : (settings : Settings) → validWidth (agreed settings) ≡ false → valid (agreed settings) ≡ false
+  pub wrongLimit : (settings : Settings) → validLimit (agreed settings) ≡ false → valid (agreed settings) ≡ false
 
 -- A load into an empty lane, with an area and a state that are not refused: a packet of an allowed length is taken, any other refused 1.
 abbrev pub PacketLengths : Type 0
@@ -60,7 +68,8 @@ PacketLengths =
 -- case: a case in the words of the marked ones
 -- reads: with ZXE or without, what the table says of this code
 -- puts: with these settings these calls of a fresh sender put so on the line
--- opens: whether either end is opened with these settings, and else it is refused 3
+-- opens: either end is opened with these settings
+-- notOpened: the opening of either end with these settings is refused so
 -- loads, asks, hears: what a call of load, next octet or the receiver answers
 -- calls: what calls of a fresh sender answer, with settings 03
 -- empties: with settings 03, behind these calls of a fresh sender so many of next octet are told to empty both lanes, and no fewer do: the
@@ -73,7 +82,8 @@ pub data Example : Type 0 where
   case : Case → Example
   reads : Bool → ℕ → Meaning → Example
   puts : Settings → List SenderCall → List ℕ → Example
-  opens : Settings → Bool → Example
+  opens : Settings → Example
+  notOpened : Settings → ℕ → Example
   loads : Lane → List ℕ → Sender → List ℕ → Answer → Example
   asks : SenderEnd → Answer → Example
   hears : ReceiverEnd → ℕ → Answer → Example
@@ -89,9 +99,9 @@ Tells (bits settings zxe pre) = (agreed settings .zxe ≡ zxe) × (agreed settin
 Tells (case c) = marked.Says c
 Tells (reads zxe c m) = meaning zxe c ≡ m
 Tells (puts settings cs line) = writtenOctets (written (freshSender settings) cs) ≡ line
-Tells (opens settings true) =
+Tells (opens settings) =
     (openSender settings ≡ sender.opened (openedSender settings)) × (openReceiver settings ≡ receiver.opened (openedReceiver settings))
-Tells (opens settings false) = (openSender settings ≡ sender.refusedOpening 3) × (openReceiver settings ≡ receiver.refusedOpening 3)
+Tells (notOpened settings n) = (openSender settings ≡ sender.refusedOpening n) × (openReceiver settings ≡ receiver.refusedOpening n)
 Tells (loads l p s area a) = load l p s area .answer ≡ a
 Tells (asks e a) = outAnswer (next e .out) ≡ a
 Tells (hears e x a) = receive e x .report ≡ a
@@ -130,7 +140,7 @@ abbrev inOnePiece : List ℕ
 inOnePiece = (0x06 ∷ 0x31 ∷ 0x32 ∷ 0x33 ∷ 0xB4 ∷ 0x9C ∷ 0x7E ∷ []) ++ (0x05 ∷ 0x41 ∷ 0x42 ∷ 0xEF ∷ 0x31 ∷ 0x7E ∷ [])
 
 -- an area of so many octets
-abbrev area : ℕ → List ℕ
+abbrev pub area : ℕ → List ℕ
 area n = replicate n 0
 
 -- a sender that is handed in with 208 data octets left
@@ -167,16 +177,26 @@ laneOff l length position = withLane l (record { length = length; position = pos
 abbrev framed : LastBlock → Bool → ℕ → ℕ → ℕ → ℕ → Receiver
 framed last resumed refusal decoded left zeros = withDue left zeros (withDecoded decoded (inFrame last resumed refusal (openedReceiver (bits16 0x03))))
 
--- settings of a width that there is not
+-- settings 03 with a width and a limit
+abbrev pub agreeing : ℕ → ℕ → Settings
+agreeing width limit = record { octet = 0x03; width = width; limit = limit }
+
+-- settings of 32 bits, and of a width that there is not
+abbrev pub bits32 : ℕ → Settings
+bits32 o = record { octet = o; width = 32; limit = 2048 }
+
 abbrev bits24 : Settings
-bits24 = record { octet = 0x03; width = 24 }
+bits24 = agreeing 24 2048
 
--- of 32 bits: a sender with a lane off the line, and a receiver in a frame
-abbrev laneOff32 : Lane → ℕ → Sender
-laneOff32 l length = withLane l (record { length = length; position = 0 }) (openedSender (bits32 0x03))
+-- of any settings: a sender with a lane off the line; a receiver that holds a fragment, and one in a frame, with so much decoded and data left
+abbrev laneHas : Settings → Lane → ℕ → Sender
+laneHas settings l length = withLane l (record { length = length; position = 0 }) (openedSender settings)
 
-abbrev framed32 : ℕ → ℕ → Receiver
-framed32 decoded left = withDue left 0 (withDecoded decoded (inFrame otherBlock false 0 (openedReceiver (bits32 0x03))))
+abbrev holding : Settings → ℕ → Receiver
+holding settings n = outOfFrame settings true (holds n)
+
+abbrev decoding : Settings → ℕ → ℕ → Receiver
+decoding settings n left = withDue left 0 (withDecoded n (inFrame otherBlock false 0 (openedReceiver settings)))
 
 -- ---- the table
 
@@ -436,34 +456,96 @@ widthExamples =
     -- 10: 2,053 octets, and one more
     ∷ case (refusedTen (bits32 0x03) (replicate 136 0xDF ++ (0xDD ∷ [])) false)
     ∷ case (refusedTen (bits32 0x03) (replicate 136 0xDF ++ (0xDE ∷ [])) true)
-    ∷ decodes (framed32 2052 1) 0x31 2053 0
-    ∷ decodes (framed32 2053 1) 0x31 2053 10
+    ∷ decodes (decoding (bits32 0x03) 2052 1) 0x31 2053 0
+    ∷ decodes (decoding (bits32 0x03) 2053 1) 0x31 2053 10
     -- 2: areas that are long enough for 16 bits are not for 32
     ∷ loads low (0x31 ∷ 0x32 ∷ []) (openedSender (bits32 0x03)) (area 2051) (refused 2)
     ∷ loads low (0x31 ∷ 0x32 ∷ []) (openedSender (bits32 0x03)) (area 2052) done
     ∷ hears (freshReceiver (bits32 0x03) (area 2053) (area 2052)) 0x7E (refused 2)
     ∷ hears (freshReceiver (bits32 0x03) (area 2053) (area 2053)) 0x7E quiet
     -- 3: the bounds
-    ∷ inBoundsS (laneOff32 low 5) false
-    ∷ inBoundsS (laneOff32 low 6) true
-    ∷ inBoundsS (laneOff32 high 2052) true
-    ∷ inBoundsS (laneOff32 high 2053) false
-    ∷ inBoundsR (framed32 2053 0) true
-    ∷ inBoundsR (framed32 2054 0) false
+    ∷ inBoundsS (laneHas (bits32 0x03) low 5) false
+    ∷ inBoundsS (laneHas (bits32 0x03) low 6) true
+    ∷ inBoundsS (laneHas (bits32 0x03) high 2052) true
+    ∷ inBoundsS (laneHas (bits32 0x03) high 2053) false
+    ∷ inBoundsR (decoding (bits32 0x03) 2053 0) true
+    ∷ inBoundsR (decoding (bits32 0x03) 2054 0) false
     -- 3 of another width goes before all else
-    ∷ opens bits24 false
-    ∷ opens (record { octet = 0x03; width = 0 }) false
-    ∷ opens (bits16 0x03) true
-    ∷ opens (bits32 0x03) true
+    ∷ notOpened bits24 3
+    ∷ notOpened (agreeing 0 2048) 3
+    ∷ opens (bits16 0x03)
+    ∷ opens (bits32 0x03)
     ∷ loads low (0x31 ∷ []) (openedSender bits24) [] (refused 3)
     ∷ asks (record { state = openedSender bits24; low = []; high = [] }) (refused 3)
     ∷ hears (freshReceiver bits24 [] []) 0x7E (refused 3)
     ∷ []
 
+-- the limit: the least, the largest, and some that are out of range (document 02, slip 11)
+abbrev pub limitExamples : List Example
+limitExamples =
+    -- 23 of the limit goes before 3 of the width
+    notOpened (agreeing 24 1) 23
+    ∷ notOpened (agreeing 24 16385) 23
+    ∷ notOpened (agreeing 16 0) 23
+    ∷ notOpened (agreeing 16 1) 23
+    ∷ notOpened (agreeing 32 16385) 23
+    ∷ notOpened (agreeing 24 2) 3
+    ∷ opens (agreeing 16 2)
+    ∷ opens (agreeing 32 16384)
+    -- 3 of the limit goes before 2, and before all else
+    ∷ loads low (0x31 ∷ []) (openedSender (agreeing 16 1)) [] (refused 3)
+    ∷ loads low (0x31 ∷ []) (openedSender (agreeing 16 16385)) [] (refused 3)
+    ∷ asks (record { state = openedSender (agreeing 16 1); low = []; high = [] }) (refused 3)
+    ∷ hears (freshReceiver (agreeing 32 16385) [] []) 0x7E (refused 3)
+    -- limit 2, 1 and 2: a packet has two octets, and its area four
+    ∷ loads low (0x31 ∷ 0x32 ∷ []) (openedSender (agreeing 16 2)) (area 3) (refused 2)
+    ∷ loads low (0x31 ∷ 0x32 ∷ 0x33 ∷ []) (openedSender (agreeing 16 2)) (area 4) (refused 1)
+    ∷ loads low (0x31 ∷ 0x32 ∷ []) (openedSender (agreeing 16 2)) (area 4) done
+    ∷ asks (record { state = openedSender (agreeing 32 2); low = area 6; high = area 5 }) (refused 2)
+    ∷ hears (freshReceiver (agreeing 16 2) (area 4) (area 5)) 0x7E (refused 2)
+    ∷ hears (freshReceiver (agreeing 16 2) (area 5) (area 5)) 0x7E quiet
+    -- its lines
+    ∷ case (sent (agreeing 16 2) (0x41 ∷ 0x42 ∷ []) (0x05 ∷ 0x41 ∷ 0x42 ∷ 0xEF ∷ 0x31 ∷ 0x7E ∷ []))
+    ∷ case (reported (agreeing 16 2) (0x05 ∷ 0x41 ∷ 0x42 ∷ 0xEF ∷ 0x31 ∷ 0x7E ∷ []) (packetOf false (0x41 ∷ 0x42 ∷ []) ∷ []))
+    ∷ case (reported (agreeing 32 2) (0x07 ∷ 0x00 ∷ 0x00 ∷ 0xBC ∷ 0x1A ∷ 0xD8 ∷ 0x47 ∷ 0x7E ∷ []) (packetOf false (0x7E ∷ 0x7E ∷ []) ∷ []))
+    -- 10: the frame of three octets, which is good; five zeros are not too many, six are
+    ∷ case (reported (agreeing 16 2) (0x06 ∷ 0x31 ∷ 0x32 ∷ 0x33 ∷ 0xB4 ∷ 0x9C ∷ 0x7E ∷ []) (refusedBy 10 ∷ []))
+    ∷ case (reported (agreeing 16 3) (0x06 ∷ 0x31 ∷ 0x32 ∷ 0x33 ∷ 0xB4 ∷ 0x9C ∷ 0x7E ∷ []) (packetOf false (0x31 ∷ 0x32 ∷ 0x33 ∷ []) ∷ []))
+    ∷ case (reported (agreeing 16 2) (0xD5 ∷ 0x7E ∷ []) (refusedBy 14 ∷ []))
+    ∷ case (reported (agreeing 16 2) (0xD6 ∷ 0x7E ∷ []) (refusedBy 10 ∷ []))
+    ∷ case (reported (agreeing 32 2) (0xD7 ∷ 0x7E ∷ []) (refusedBy 14 ∷ []))
+    ∷ case (reported (agreeing 32 2) (0xD8 ∷ 0x7E ∷ []) (refusedBy 10 ∷ []))
+    -- 3: the bounds, of either limit
+    ∷ inBoundsS (laneHas (agreeing 16 2) high 4) true
+    ∷ inBoundsS (laneHas (agreeing 16 2) high 5) false
+    ∷ inBoundsS (laneHas (agreeing 32 16384) high 16388) true
+    ∷ inBoundsS (laneHas (agreeing 32 16384) high 16389) false
+    ∷ inBoundsR (holding (agreeing 16 2) 5) true
+    ∷ inBoundsR (holding (agreeing 16 2) 6) false
+    ∷ inBoundsR (decoding (agreeing 32 16384) 16389 0) true
+    ∷ inBoundsR (decoding (agreeing 32 16384) 16390 0) false
+    ∷ []
+
+-- limit 16,384, by laws
+abbrev pub largestExamples : List Example
+largestExamples =
+    -- 1 and 2
+    loads low (area 16384) (openedSender (agreeing 16 16384)) (area 16386) done
+    ∷ loads low (area 16385) (openedSender (agreeing 16 16384)) (area 16386) (refused 1)
+    ∷ loads low (area 2) (openedSender (agreeing 16 16384)) (area 16385) (refused 2)
+    ∷ hears (freshReceiver (agreeing 32 16384) (area 16389) (area 16388)) 0x7E (refused 2)
+    ∷ hears (freshReceiver (agreeing 32 16384) (area 16389) (area 16389)) 0x7E quiet
+    -- 10: 16,387 octets with 16 bits, 16,389 with 32, and one more
+    ∷ case (refusedTen (agreeing 16 16384) (replicate 1092 0xDF ++ (0xD7 ∷ [])) false)
+    ∷ case (refusedTen (agreeing 16 16384) (replicate 1092 0xDF ++ (0xD8 ∷ [])) true)
+    ∷ case (refusedTen (agreeing 32 16384) (replicate 1092 0xDF ++ (0xD9 ∷ [])) false)
+    ∷ case (refusedTen (agreeing 32 16384) (replicate 1092 0xDF ++ (0xDA ∷ [])) true)
+    ∷ []
+
 abbrev pub examples : List Example
 examples =
     settingsExamples
-    ++ (widthExamples ++ (codeExamples ++ (callExamples ++ (senderBounds ++ (receiverBounds ++ (emptyExamples ++ (frameExamples ++ heldExamples)))))))
+    ++ (widthExamples ++ (limitExamples ++ (largestExamples ++ (codeExamples ++ (callExamples ++ (senderBounds ++ (receiverBounds ++ (emptyExamples ++ (frameExamples ++ heldExamples)))))))))
 
 -- every example holds
 abbrev pub Examples : Type 0

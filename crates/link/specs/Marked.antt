@@ -6,12 +6,16 @@ use mathlib.Core.Option.{none, some}
 use Prim.Native.Nat.{ℕ, _+_}
 use lib.ListN.{length, replicate}
 use Rattle.cobs.specs.CodeBlocks.{flag, choice}
-use Rattle.link.specs.Agreed.{Settings, bits16, agreed, largestFrame, mostDecoded}
+use Rattle.link.specs.Agreed.{Settings, agreed, largestFrame, mostDecoded}
 use Rattle.link.specs.Answers.{Answer, octet, packet, held, refused}
 use Rattle.link.specs.Sender.{Lane, low, high, outAnswer, next}
 use Rattle.link.specs.Receiver.{ReceiverEnd, Receive, receive}
 use Rattle.link.specs.Runs.{SenderCall, loading, nextOctet, Station, freshStation, run, afterNext, Written, written, writtenOctets, atTrue, atFalse, receives, received, notQuiet, underWay, leftAside}
 use Rattle.link.specs.Demands.{freshReceiver, ReportAndPacket, reportAndPacket}
+
+-- Document 01's settings, with a settings octet: a check of 16 bits, and packets of up to 2,048 octets.
+abbrev pub bits16 : ℕ → Settings
+bits16 o = record { octet = o; width = 16; limit = 2048 }
 
 -- sent: with these settings this packet is sent so, from either lane, and then the sender is idle
 -- reported: with these settings these octets are reported so, Quiet left out

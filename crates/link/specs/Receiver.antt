@@ -9,7 +9,7 @@ use Rattle.fcs.specs.CheckSequence.{good}
 use Rattle.cobs.specs.CodeBlocks.{flag, fromLine, meaning}
 use Rattle.cobs.specs.declared.Meaning.{Meaning}
 use Rattle.cobs.specs.declared.Meaning.the-variants.{InTable, NotAgreed, NoCode}
-use Rattle.link.specs.Agreed.{Settings, Agreed, agreed, valid, leastFrame, mostDecoded}
+use Rattle.link.specs.Agreed.{Settings, Agreed, agreed, validWidth, validLimit, valid, leastFrame, mostDecoded}
 use Rattle.link.specs.Answers.{Answer, quiet, packet, held, refused}
 pub use Rattle.link.specs.declared.receiver.Fragment.{Fragment}
 pub use Rattle.link.specs.declared.receiver.Fragment.the-variants.{NothingHeld as nothingHeld, Holds as holds}
@@ -31,7 +31,8 @@ pub use Rattle.link.specs.declared.receiver.Opening.the-variants.{Opened
 --   mark *in a frame*                                       framed
 --   mark *resumed*                                          resumed
 --   remembered refusal                                      refusal: its number, 0 for none
---   settings octet ("Code blocks"), width (slip 1)          settings: octet, width
+--   settings octet ("Code blocks"), width (slip 1),         settings: octet, width,
+--   limit (slip 11)                                         limit
 
 -- Out of a frame all is as fresh but the settings, the turn of the areas and what is held.
 abbrev pub outOfFrame : Settings → Bool → Fragment → Receiver
@@ -53,9 +54,12 @@ outOfFrame settings turn fragment =
 abbrev pub openedReceiver : Settings → Receiver
 openedReceiver settings = outOfFrame settings false nothingHeld
 
--- Its opening is refused 3 of any width but 16 or 32.
+-- Its opening is refused 23 of a limit out of range, and then 3 of any width but 16 or 32.
 abbrev pub openReceiver : Settings → Opening
-openReceiver settings = if valid (agreed settings) then opened (openedReceiver settings) else refusedOpening 3
+openReceiver settings =
+    if not (validLimit (agreed settings)) then refusedOpening 23
+    else if not (validWidth (agreed settings)) then refusedOpening 3
+    else opened (openedReceiver settings)
 
 -- The state with some items changed. But for these four and `outOfFrame` no definition and no proof writes a whole state out.
 
@@ -149,7 +153,7 @@ lastBlockOk noBlock r = r .resumed
 lastBlockOk blockD0 r = true
 lastBlockOk otherBlock r = ltb 0 (r .left) || ltb 0 (r .decoded)
 
--- all of it, with 207 data octets and 2 zeros at the most, no count above 2,051 (with 16 bits), and only a refusal from 5 to 10 remembered
+-- all of it, with 207 data octets and 2 zeros at the most, no count above what may be decoded, and only a refusal from 5 to 10 remembered
 unfoldable pub inBounds : Agreed → Receiver → Bool
 inBounds g r =
     leb (r .decoded) (mostDecoded g)
@@ -185,7 +189,7 @@ write area n xs = take n area ++ xs ++ drop (n + length xs) area
 abbrev pub step3Write : List ℕ → Working → Working
 step3Write xs w = record { state = withDecoded (w .state .decoded + length xs) (w .state); area = write (w .area) (w .state .decoded) xs }
 
--- Step 3: octets are decoded, or, where they would be too many (above 2,051 with 16 bits), refused 10 and not written.
+-- Step 3: octets are decoded, or, where they would be too many, refused 10 and not written.
 unfoldable pub step3Decode : Agreed → List ℕ → Working → Working
 step3Decode g xs w = if ltb (mostDecoded g) (w .state .decoded + length xs) then step4Refuse 10 w else step3Write xs w
 
@@ -324,7 +328,8 @@ pub record Receive : Type 0 where
 abbrev pub flagged : ReceiverEnd → Ended → Receive
 flagged e t = record { report = t .report; after = record { state = t .state; first = e .first; second = e .second } }
 
--- The receiver's call: refusals 3 (of the width), 2 and 3, in this order, or a flag, or an octet of a frame, where 00 is turned into 7E first.
+-- The receiver's call: refusals 3 (of the width or the limit), 2 and 3, in this order, or a flag, or an octet of a frame, where 00 is turned
+-- into 7E first.
 unfoldable pub receive : ReceiverEnd → ℕ → Receive
 receive e x =
     let g = agreed (e .state .settings) in

@@ -7,7 +7,7 @@ use lib.ListN.{length, take, drop, getD}
 use Rattle.fcs.specs.Notation.{if_then_else_}
 use Rattle.cobs.specs.CodeBlocks.{frame, withPhantom, flag, toLine, choice}
 use Rattle.cobs.specs.declared.Choice.{Choice}
-use Rattle.link.specs.Agreed.{Settings, Agreed, agreed, valid, leastPacket, leastFrame, largestFrame}
+use Rattle.link.specs.Agreed.{Settings, Agreed, agreed, validWidth, validLimit, valid, leastPacket, leastFrame, largestFrame}
 use Rattle.link.specs.Answers.{Answer, done, octet, idle, refused}
 pub use Rattle.link.specs.declared.sender.Lane.{Lane}
 pub use Rattle.link.specs.declared.sender.Lane.the-variants.{Low as low, High as high}
@@ -27,7 +27,8 @@ pub use Rattle.link.specs.declared.sender.Opening.the-variants.{Opened a
 --   lane on the line                                        on: `sending l`, or `noLane`
 --   mark *suspended*                                        suspended
 --   mark *cut due*                                          cut
---   settings octet ("Code blocks"), width (slip 1)          settings: octet, width
+--   settings octet ("Code blocks"), width (slip 1),         settings: octet, width,
+--   limit (slip 11)                                         limit
 
 abbrev pub emptyLane : LaneState
 emptyLane = record { length = 0; position = 0 }
@@ -37,9 +38,12 @@ abbrev pub openedSender : Settings → Sender
 openedSender settings =
     record { low = emptyLane; high = emptyLane; left = 0; zeros = 0; on = noLane; suspended = false; cut = false; settings = settings }
 
--- where the opening is not refused: refusal 3 of any width but 16 or 32
+-- where the opening is not refused: 23 of a limit out of range, and then 3 of any width but 16 or 32
 abbrev pub openSender : Settings → Opening
-openSender settings = if valid (agreed settings) then opened (openedSender settings) else refusedOpening 3
+openSender settings =
+    if not (validLimit (agreed settings)) then refusedOpening 23
+    else if not (validWidth (agreed settings)) then refusedOpening 3
+    else opened (openedSender settings)
 
 abbrev pub laneState : Lane → Sender → LaneState
 laneState low s = s .low
@@ -118,7 +122,7 @@ putFrame g l packet s area =
       area = f ++ drop (length f) area;
     }
 
--- Load: refusals 3 (of the width), 2, 3, 4 and 1, in this order, or Done.
+-- Load: refusals 3 (of the width or the limit), 2, 3, 4 and 1, in this order, or Done.
 unfoldable pub load : Lane → List ℕ → Sender → List ℕ → Load
 load l packet s area =
     let g = agreed (s .settings) in
@@ -221,7 +225,7 @@ steps1To6 g e true o = step1CutDue (e .state)
 steps1To6 g e false noLane = step2NoLane g e
 steps1To6 g e false (sending l) = steps3To6 g l (e .state) (laneD (laneState l (e .state)) (laneArea l e))
 
--- Next octet: refusals 3 (of the width), 2 and 3, in this order, or the steps.
+-- Next octet: refusals 3 (of the width or the limit), 2 and 3, in this order, or the steps.
 unfoldable pub next : SenderEnd → Step
 next e =
     let s = e .state in

@@ -7,8 +7,10 @@ use lib.ListN.{length}
 use Rattle.link.specs.Agreed.{Agreed, agreed, valid, leastFrame, largestFrame}
 use Rattle.link.specs.Sender.{Lane, LaneState, Sender, SenderEnd, sending, inBounds}
 
--- A lane that may be on the line: its area is long enough for a frame, and its block, with so much data left and zeros due, is inside D.
+-- A lane that may be on the line, with valid settings: its area is long enough for a frame, and its block, with so much data left and zeros
+-- due, is inside D.
 pub record LaneReady (g : Agreed) (q : LaneState) (left zeros : ℕ) (area : List ℕ) : Type 0 where
+  pub valid : valid g ≡ true
   pub short : q .length ≤ largestFrame g
   pub long : largestFrame g ≤ length area
   pub fewZeros : zeros ≤ 2

@@ -30,8 +30,11 @@ pub struct LaneState {
     pub position: u16,
 }
 
-// The state. Its items are listed in specs/Sender.antt as document 01 has them.
+// The state. Its items are listed in specs/Sender.antt as document 01 has them; here they stand in an order that took few machine
+// instructions among those tried (docs/LANDINGS.md).
 pub struct Sender {
+    // the settings octet, the width of the check, and the limit
+    pub settings: Settings,
     pub low: LaneState,
     pub high: LaneState,
     // data octets left in the block that is being sent
@@ -44,13 +47,11 @@ pub struct Sender {
     pub suspended: bool,
     // mark *cut due*: the flag that breaks it off comes next
     pub cut: bool,
-    // the settings octet and the width of the check
-    pub settings: Settings,
 }
 
 pub enum Opening {
     Opened(Sender),
-    // 3
+    // 23 or 3
     Refused(u8),
 }
 
@@ -77,11 +78,14 @@ pub struct Sent {
     pub answer: NextAnswer,
 }
 
-// A sender is opened empty. Refusal 3 of any width but 16 or 32.
+// A sender is opened empty. Refusals 23, of a limit out of range, and 3, of any width but 16 or 32, in this order.
 pub fn open(settings: Settings) -> Opening
     ensures { λ r. ⌜ r ≡ openSender settings ⌝ }
 {
-    if !settings.valid() {
+    if !settings.valid_limit() {
+        return Opening::Refused(23);
+    }
+    if !settings.valid_width() {
         return Opening::Refused(3);
     }
     Opening::Opened(opened(settings))
@@ -289,7 +293,7 @@ impl Sender {
 
     // The frame over the area's first octets, what lies behind it untouched; the lane stands at its beginning.
     fn put_frame(self, lane: Lane, packet: &[u8], area: &mut [u8]) -> Loaded
-        requires { ⌜ (length (now packet) ≤ agreed (self .settings) .limit) × (largestFrame (agreed (self .settings)) ≤ length (now area)) ⌝ }
+        requires { ⌜ (valid (agreed (self .settings)) ≡ true) × (length (now packet) ≤ agreed (self .settings) .limit) × (largestFrame (agreed (self .settings)) ≤ length (now area)) ⌝ }
         ensures { λ r. ⌜ record { answer = loadAnswer (r .answer); state = r .state; area = now (area .exit) }
             ≡ putFrame (agreed (self .settings)) lane (now (packet .entry)) self (now (area .entry)) ⌝ }
     {
@@ -306,7 +310,7 @@ impl Sender {
         }
     }
 
-    // Load: refusals 3 (of the width), 2, 3, 4 and 1, in this order.
+    // Load: refusals 3 (of the width or the limit), 2, 3, 4 and 1, in this order.
     pub fn load(self, lane: Lane, packet: &[u8], area: &mut [u8]) -> Loaded
         ensures { λ r. ⌜ record { answer = loadAnswer (r .answer); state = r .state; area = now (area .exit) }
             ≡ load lane (now (packet .entry)) self (now (area .entry)) ⌝ }
@@ -320,11 +324,12 @@ impl Sender {
         if !self.in_bounds() {
             return self.load_refused(3);
         }
+        let limit = self.settings.limit as usize;
         let loaded = self.lane_state(lane).length;
         if 0 < loaded {
             return self.load_refused(4);
         }
-        if (packet.len() < crate::LEAST_PACKET) | (crate::LARGEST_PACKET < packet.len()) {
+        if (packet.len() < crate::LEAST_PACKET) | (limit < packet.len()) {
             return self.load_refused(1);
         }
         self.put_frame(lane, packet, area)
@@ -400,7 +405,7 @@ impl Sender {
 
     // Step 6, a block is chosen: its code. If the block has no data, its zeros are covered with it.
     fn step6_code(self, lane: Lane, c: cobs::Choice) -> Sent
-        requires { ⌜ laneState lane self .position ≤ largestFrame (agreed (self .settings)) ⌝ }
+        requires { ⌜ (valid (agreed (self .settings)) ≡ true) × (laneState lane self .position ≤ largestFrame (agreed (self .settings))) ⌝ }
         ensures { λ r. ⌜ record { answer = nextAnswer (r .answer); state = r .state } ≡ seen (step6Code lane self c) ⌝ }
     {
         let code = cobs::to_line(c.code);
@@ -459,7 +464,8 @@ impl Sender {
 
     // The first step that applies.
     fn steps_1_to_6(self, low: &[u8], high: &[u8]) -> Sent
-        requires { ⌜ (inBounds (agreed (self .settings)) self ≡ true)
+        requires { ⌜ (valid (agreed (self .settings)) ≡ true)
+            × (inBounds (agreed (self .settings)) self ≡ true)
             × (largestFrame (agreed (self .settings)) ≤ length (now low))
             × (largestFrame (agreed (self .settings)) ≤ length (now high)) ⌝ }
         ensures { λ r. ⌜ record { answer = nextAnswer (r .answer); state = r .state }
@@ -553,7 +559,7 @@ impl Sender {
         self.data_due(self.high.length, self.high.position)
     }
 
-    // Next octet: refusals 3 (of the width), 2 and 3, in this order.
+    // Next octet: refusals 3 (of the width or the limit), 2 and 3, in this order.
     pub fn next_octet(self, low: &[u8], high: &[u8]) -> Sent
         ensures { λ r. ⌜ record { answer = nextAnswer (r .answer); state = r .state }
             ≡ seen (next (record { state = self; low = now (low .entry); high = now (high .entry) })) ⌝ }

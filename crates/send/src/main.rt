@@ -13,11 +13,14 @@ use link::sender::Sender;
 // Octets of a record before its packet: the lane, and two numbers of two octets.
 const HEAD: usize = 5;
 
+// The limit, where a file says none: document 01's.
+const DEFAULT_LIMIT: u16 = 2048;
+
 // The sender, and how many octets on the page are still to be written. on: there was no fault, and all was written.
 struct Line {
-    state: Sender,
     filled: usize,
     on: bool,
+    state: Sender,
 }
 
 // What is wrong with a file of records.
@@ -112,25 +115,54 @@ fn file(number: usize) -> bool {
     whole
 }
 
-// What a file has before its records: the settings octet, and the width behind a W where there is one. The answer says whether all of the
-// file was sent.
+// What a file has before its records: the settings octet, the width behind a W where there is one, and the limit. The answer says whether all
+// of the file was sent.
 fn head(fd: i32, name: &[u8]) -> bool {
     let settings = octet(fd);
     if settings.got <= 0 {
-        return no_settings(settings.got, name);
+        return missing(
+            settings.got,
+            name,
+            b"it is empty, there is no settings octet\n",
+        );
     }
     let next = octet(fd);
     if (0 < next.got) & (next.octet == b'W') {
         let width = octet(fd);
         if width.got <= 0 {
-            return no_width(width.got, name);
+            return missing(
+                width.got,
+                name,
+                b"it is cut short, there is no width behind its W\n",
+            );
+        }
+        return behind_width(fd, settings.octet, width.octet, octet(fd), 3, name);
+    }
+    behind_width(fd, settings.octet, 16, next, 1, name)
+}
+
+// What a file has behind the width: the limit behind an M where there is one. next: the octet at this place.
+fn behind_width(fd: i32, settings: u8, width: u8, next: OneOctet, place: u64, name: &[u8]) -> bool
+    requires { ⌜ place ≤ 3 ⌝ }
+{
+    if (0 < next.got) & (next.octet == b'M') {
+        let high = octet(fd);
+        if high.got <= 0 {
+            return no_limit(high.got, name);
+        }
+        let low = octet(fd);
+        if low.got <= 0 {
+            return no_limit(low.got, name);
         }
         return open(
             fd,
-            settings.octet,
-            width.octet,
+            Settings {
+                octet: settings,
+                width,
+                limit: number(high.octet, low.octet),
+            },
             Start {
-                place: 3,
+                place: place + 3,
                 kept: 0,
                 first: 0,
             },
@@ -139,10 +171,13 @@ fn head(fd: i32, name: &[u8]) -> bool {
     }
     open(
         fd,
-        settings.octet,
-        16,
+        Settings {
+            octet: settings,
+            width,
+            limit: DEFAULT_LIMIT,
+        },
         Start {
-            place: 1,
+            place,
             kept: read_one(next.got),
             first: next.octet,
         },
@@ -161,20 +196,26 @@ fn read_one(got: isize) -> usize
 }
 
 // The sender is opened, and the records are sent.
-fn open(fd: i32, octet: u8, width: u8, records: Start, name: &[u8]) -> bool
+fn open(fd: i32, settings: Settings, records: Start, name: &[u8]) -> bool
     requires { ⌜ records .kept ≤ 1 ⌝ }
 {
-    let opening = link::sender::open(Settings { octet, width });
+    let opening = link::sender::open(settings);
     match opening {
         Opening::Opened(sender) => {
             let outcome = all(fd, sender, records);
-            told(outcome, name)
+            told(outcome, settings.limit, name)
         }
-        Opening::Refused(_) => {
+        Opening::Refused(n) => {
             files::complain(b"send", name);
-            say(b"its width is ");
-            io::print_decimal(STDERR_FILENO, width as u64);
-            say(b", neither 16 nor 32\n");
+            if n == 23 {
+                say(b"its limit is ");
+                io::print_decimal(STDERR_FILENO, settings.limit as u64);
+                say(b", not from 2 to 16384\n");
+            } else {
+                say(b"its width is ");
+                io::print_decimal(STDERR_FILENO, settings.width as u64);
+                say(b", neither 16 nor 32\n");
+            }
             false
         }
     }
@@ -196,8 +237,8 @@ fn all(fd: i32, sender: Sender, from: Start) -> Outcome
 {
     let mut input = input_buffer();
     let mut page = io::large_buffer();
-    let mut low = [0u8; 2052];
-    let mut high = [0u8; 2052];
+    let mut low = lane_buffer();
+    let mut high = lane_buffer();
     let mut line = Line {
         state: sender,
         filled: 0,
@@ -234,6 +275,13 @@ fn input_buffer() -> [u8; 131072]
     ensures { λ r. ⌜ 131072 ≡ length r ⌝ }
 {
     [0; 131072]
+}
+
+// Room for the frame of a packet of the largest limit, 16,384 octets, with 32 bits.
+fn lane_buffer() -> [u8; 16388]
+    ensures { λ r. ⌜ 16388 ≡ length r ⌝ }
+{
+    [0; 16388]
 }
 
 // A number is two octets, the high one first.
@@ -588,7 +636,7 @@ fn complain(name: &[u8], records: u64, octets: u64) {
 }
 
 // A message about a fault. The answer says that all was sent and written.
-fn told(outcome: Outcome, name: &[u8]) -> bool {
+fn told(outcome: Outcome, limit: u16, name: &[u8]) -> bool {
     let fault = outcome.fault;
     match fault {
         Fault::Nothing => outcome.written,
@@ -609,30 +657,29 @@ fn told(outcome: Outcome, name: &[u8]) -> bool {
         }
         Fault::Refused => {
             complain(name, outcome.records, outcome.octets);
-            say(b"its packet has fewer than 2 or more than 2048 octets\n");
+            say(b"its packet has fewer than 2 or more than ");
+            io::print_decimal(STDERR_FILENO, limit as u64);
+            say(b" octets\n");
             false
         }
     }
 }
 
-// A file without its first octet.
-fn no_settings(got: isize, name: &[u8]) -> bool {
+// A file that cannot be read, or ends, before its records.
+fn missing(got: isize, name: &[u8], words: &[u8]) -> bool {
     if got < 0 {
         files::fail(b"send", name, b"cannot be read");
         return false;
     }
     files::complain(b"send", name);
-    say(b"it is empty, there is no settings octet\n");
+    say(words);
     false
 }
 
-// A file that ends behind W.
-fn no_width(got: isize, name: &[u8]) -> bool {
-    if got < 0 {
-        files::fail(b"send", name, b"cannot be read");
-        return false;
-    }
-    files::complain(b"send", name);
-    say(b"it is cut short, there is no width behind its W\n");
-    false
+fn no_limit(got: isize, name: &[u8]) -> bool {
+    missing(
+        got,
+        name,
+        b"it is cut short, there are no two octets of a limit behind its M\n",
+    )
 }

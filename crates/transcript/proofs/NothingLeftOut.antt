@@ -10,14 +10,15 @@ use borrow.Author.Tests.{ltb-true, ltb-false}
 use lib.Dec.{ltb}
 use lib.ListN.{length, take, drop, length-append, length-drop, take-append-drop}
 use lib.Seq.{take-append-seam, drop-append-seam}
-use Rattle.cobs.proofs.Tests.{branch}
-use Rattle.link.specs.Agreed.{agreed}
+use Rattle.cobs.proofs.Tests.{branch, decide}
+use Rattle.link.specs.Agreed.{agreed, valid}
 use Rattle.link.specs.declared.Settings.{Settings}
 use Rattle.link.specs.Answers.{Answer, done, octet, idle, quiet, packet, held, refused, isQuiet}
 use Rattle.link.specs.Receiver.{ReceiverEnd, Receive, areaOf, receive}
 use Rattle.link.specs.Runs.{receives, received, notQuiet}
 use Rattle.link.specs.EachCall.{Within}
-use Rattle.link.proofs.Agreed.{limit-is, decoded-at-most}
+use Rattle.link.proofs.Agreed.{limit-at-most, decoded-at-most}
+use Rattle.link.proofs.EachCall.{valid-first, settings-stay}
 use Rattle.link.proofs.Within.{within}
 use Rattle.reader.specs.NothingLost.{notQuietCalls, reports}
 use Rattle.reader.proofs.NothingLost.{received-append, cuts}
@@ -33,23 +34,27 @@ use Rattle.transcript.proofs.Printing.{quiet-line}
 
 -- ---- no line is longer than the longest
 
-fits : (settings : Settings) (a : Answer) (e : ReceiverEnd) → Within (agreed settings) a e
-    → length (reportLine a (shownOf a (e .first) (e .second))) ≤ longestLine
-fits s (packet second n) e w =
-    let l : n ≤ 2048 = omega (arith, w .1, limit-is s) in
-    omega (arith, report-most (packet second n) (shownOf (packet second n) (e .first) (e .second)) (omega arith), front-most n (areaOf second e))
-fits s (held n replaced) e w = omega (arith, report-most (held n replaced) [] (omega (arith, w, decoded-at-most s)))
-fits s (refused n) e w = omega (arith, report-most (refused n) [] (omega arith))
-fits s quiet e w = omega (arith, report-most quiet [] (omega arith))
-fits s done e w = omega (arith, report-most done [] (omega arith))
-fits s (octet x) e w = omega (arith, report-most (octet x) [] (omega arith))
-fits s idle e w = omega (arith, report-most idle [] (omega arith))
+fits : (settings : Settings) → valid (agreed settings) ≡ true → (a : Answer) (e : ReceiverEnd) → Within (agreed settings) a e
+    → length (reportLine a (shownOf a (e .first) (e .second))) ≤ longestLine settings
+fits s v (packet second n) e w =
+    let m : n < 65536 = omega (arith, w .1, limit-at-most (agreed s) v) in
+    omega (arith, w .1, report-most (packet second n) (shownOf (packet second n) (e .first) (e .second)) m, front-most n (areaOf second e))
+fits s v (held n replaced) e w = omega (arith, report-most (held n replaced) [] (omega (arith, w, decoded-at-most s v)))
+fits s v (refused n) e w = omega (arith, report-most (refused n) [] (omega arith))
+fits s v quiet e w = omega (arith, report-most quiet [] (omega arith))
+fits s v done e w = omega (arith, report-most done [] (omega arith))
+fits s v (octet x) e w = omega (arith, report-most (octet x) [] (omega arith))
+fits s v idle e w = omega (arith, report-most idle [] (omega arith))
 
-pub line-most : (e : ReceiverEnd) (x : ℕ) → length (lineOf (receive e x)) ≤ longestLine
+-- with settings that are not valid the call is refused, and has none
+pub line-most : (e : ReceiverEnd) (x : ℕ) → length (lineOf (receive e x)) ≤ longestLine (e .state .settings)
 unfolding lineOf
 line-most e x =
     let h = receive e x in
-    branch (λ (l : List ℕ). length l ≤ longestLine) (isCounted (h .report)) (λ _. fits (e .state .settings) (h .report) (h .after) (within e x)) (λ _. omega arith)
+    let t = e .state .settings in
+    decide (valid (agreed t))
+    (λ v. branch (λ (l : List ℕ). length l ≤ longestLine t) (isCounted (h .report)) (λ _. fits t v (h .report) (h .after) (within e x)) (λ _. omega arith))
+    (λ n. rw (valid-first .receive e x n) (omega arith))
 
 -- ---- the line of the first call, and those of the others
 
@@ -70,15 +75,15 @@ record Goes (e : ReceiverEnd) (xs : List ℕ) (p : Page) (t : Transcript) : Type
   room : p .filled + length (linesOf (notQuietCalls e (take (t .used) xs))) ≤ length (p .area)
   after : t .after ≡ received e (take (t .used) xs)
   most : t .used ≤ length xs
-  least : 0 < length xs → p .filled + longestLine ≤ length (p .area) → 1 ≤ t .used
-  stops : t .used < length xs → length (p .area) < t .page .filled + longestLine
+  least : 0 < length xs → p .filled + longestLine (e .state .settings) ≤ length (p .area) → 1 ≤ t .used
+  stops : t .used < length xs → length (p .area) < t .page .filled + longestLine (e .state .settings)
 
-stays : (e : ReceiverEnd) (xs : List ℕ) (p : Page) → p .filled ≤ length (p .area) → (0 < length xs → length (p .area) < p .filled + longestLine)
+stays : (e : ReceiverEnd) (xs : List ℕ) (p : Page) → p .filled ≤ length (p .area) → (0 < length xs → length (p .area) < p .filled + longestLine (e .state .settings))
     → Goes e xs p (record { after = e; page = p; used = 0 })
 unfolding linesOf flatMap notQuiet receives received
 stays e xs p h s = record { page = append-none p; room = omega arith; after = refl; most = omega arith; least = λ l r. absurd (omega (arith, s l)); stops = s }
 
-module _ (e : ReceiverEnd) (x : ℕ) (xs : List ℕ) (p : Page) (room : p .filled + longestLine ≤ length (p .area)) where
+module _ (e : ReceiverEnd) (x : ℕ) (xs : List ℕ) (p : Page) (room : p .filled + longestLine (e .state .settings) ≤ length (p .area)) where
   abbrev h : Receive
   h = receive e x
 
@@ -107,16 +112,16 @@ module _ (e : ReceiverEnd) (x : ℕ) (xs : List ℕ) (p : Page) (room : p .fille
         after = k .after;
         most = omega (arith, k .most);
         least = λ _ _. omega arith;
-        stops = λ l. omega (arith, k .stops (omega arith), q-long);
+        stops = λ l. omega (arith, k .stops (omega arith), ap longestLine (settings-stay .receive e x), q-long);
       })
 
 goes : (e : ReceiverEnd) (xs : List ℕ) (p : Page) → p .filled ≤ length (p .area) → Goes e xs p (printOn e xs p)
 unfolding printOn
 goes e [] p h = stays e [] p h (λ l. absurd (omega arith))
 goes e (x ∷ xs) p h =
-    branch (Goes e (x ∷ xs) p) (ltb (length (p .area)) (p .filled + longestLine))
+    branch (Goes e (x ∷ xs) p) (ltb (length (p .area)) (p .filled + longestLine (e .state .settings)))
     (λ b. stays e (x ∷ xs) p h (λ _. ltb-true _ _ b))
-    (λ b. let room = ltb-false (length (p .area)) (p .filled + longestLine) b in
+    (λ b. let room = ltb-false (length (p .area)) (p .filled + longestLine (e .state .settings)) b in
     one-line e x xs p room _ (goes (receive e x .after) xs (append p (lineOf (receive e x))) (q-within e x xs p room)))
 
 -- ---- from the start of a page
@@ -135,11 +140,16 @@ nothing-left-out e xs page =
       after = k .after;
       long = page-length _ _ ls (k .page);
       most = k .most;
-      least = k .least;
+      least = λ l r. k .least l (omega (arith, r));
       stops = k .stops;
     }
 
 -- ---- a program that reads a line in stretches
+
+settings-received : (e : ReceiverEnd) (xs : List ℕ) → received e xs .state .settings ≡ e .state .settings
+unfolding received
+settings-received e [] = refl
+settings-received e (x ∷ xs) = settings-received (receive e x .after) xs ∙ settings-stay .receive e x
 
 lines-append : (hs ks : List Receive) → linesOf (hs ++ ks) ≡ linesOf hs ++ linesOf ks
 unfolding linesOf flatMap
@@ -160,7 +170,7 @@ none : (e : ReceiverEnd) (page : List ℕ) → AllLines e [] page (record { text
 unfolding linesOf flatMap notQuiet receives received
 none e page = record { text = refl; after = refl; long = refl }
 
-stretch : (n : ℕ) (e : ReceiverEnd) (xs page : List ℕ) → length xs ≤ n → longestLine ≤ length page → AllLines e xs page (printStretch n e xs page)
+stretch : (n : ℕ) (e : ReceiverEnd) (xs page : List ℕ) → length xs ≤ n → longestLine (e .state .settings) ≤ length page → AllLines e xs page (printStretch n e xs page)
 unfolding printStretch
 stretch zero e [] page l r = none e page
 stretch zero e (x ∷ xs) page l r = absurd (omega arith)
@@ -170,7 +180,7 @@ stretch (suc n) e (x ∷ xs) page l r =
     let t = print e ys page in
     let k = nothing-left-out e ys page in
     let s : length (drop (t .used) ys) ≤ n = simp length-drop (omega (arith, k .least (omega arith) r)) in
-    let m = stretch n (t .after) (drop (t .used) ys) (t .page .area) s (omega (arith, k .long)) in
+    let m = stretch n (t .after) (drop (t .used) ys) (t .page .area) s (rw (k .after, settings-received e (take (t .used) ys)) (omega (arith, k .long))) in
     let w = rw (take-append-drop (t .used) ys) at (joined e (t .after) (take (t .used) ys) (drop (t .used) ys) (t .page .area) _ _ (k .text) (k .after) m) in
     record { text = w .text; after = w .after; long = w .long ∙ k .long }
 
@@ -179,7 +189,7 @@ unfolding printStretches flatten
 all-printed e [] page r = none e page
 all-printed e (xs ∷ xss) page r =
     let k = stretch (length xs) e xs page (omega arith) r in
-    let m = all-printed (printStretch (length xs) e xs page .after) xss (printStretch (length xs) e xs page .page) (omega (arith, k .long)) in
+    let m = all-printed (printStretch (length xs) e xs page .after) xss (printStretch (length xs) e xs page .page) (rw (k .after, settings-received e xs) (omega (arith, k .long))) in
     let j = joined e _ xs (flatten xss) _ _ _ (k .text) (k .after) m in
     record { text = j .text; after = j .after; long = j .long ∙ k .long }
 

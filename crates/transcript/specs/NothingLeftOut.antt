@@ -23,8 +23,8 @@ pub record Printing (e : ReceiverEnd) (xs : List ℕ) (page : List ℕ) (t : Tra
   pub after : t .after ≡ received e (take (t .used) xs)
   pub long : length (t .page .area) ≡ length page
   pub most : t .used ≤ length xs
-  pub least : 0 < length xs → longestLine ≤ length page → 1 ≤ t .used
-  pub stops : t .used < length xs → length page < t .page .filled + longestLine
+  pub least : 0 < length xs → longestLine (e .state .settings) ≤ length page → 1 ≤ t .used
+  pub stops : t .used < length xs → length page < t .page .filled + longestLine (e .state .settings)
 
 abbrev pub NothingLeftOut : Type 0
 NothingLeftOut = (e : ReceiverEnd) (xs : List ℕ) (page : List ℕ) → Printing e xs page (print e xs page)
@@ -63,7 +63,7 @@ pub record AllLines (e : ReceiverEnd) (xs : List ℕ) (page : List ℕ) (u : Out
 -- However the line is divided into stretches, and whatever page with room for the longest line is lent.
 abbrev pub AllPrinted : Type 0
 AllPrinted =
-    (e : ReceiverEnd) (stretches : List (List ℕ)) (page : List ℕ) → longestLine ≤ length page
+    (e : ReceiverEnd) (stretches : List (List ℕ)) (page : List ℕ) → longestLine (e .state .settings) ≤ length page
     → AllLines e (flatten stretches) page (printStretches e stretches page)
 
 -- ---- a program that counts

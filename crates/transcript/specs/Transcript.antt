@@ -1,9 +1,11 @@
 -- What a stretch of a line comes to as text (document 01, "Display, tally, capture program").
 use mathlib.Core.List.{List, [], _∷_, flatMap}
-use Prim.Native.Nat.{ℕ, _+_}
+use Prim.Native.Nat.{ℕ, _+_, _*_}
 use lib.Dec.{ltb}
 use lib.ListN.{length}
 use Rattle.fcs.specs.Notation.{if_then_else_}
+use Rattle.link.specs.Agreed.{agreed}
+use Rattle.link.specs.declared.Settings.{Settings}
 use Rattle.link.specs.Answers.{Answer, done, octet, idle, quiet, packet, held, refused}
 use Rattle.link.specs.Receiver.{ReceiverEnd, Receive, receive}
 use Rattle.tally.specs.Display.{shown}
@@ -35,9 +37,9 @@ linesOf = flatMap lineOf
 
 -- ---- a page of them
 
--- The most octets of a line: 3 for each octet of the largest packet, and 10.
-abbrev pub longestLine : ℕ
-longestLine = 6154
+-- No line has more octets, whatever was agreed: 3 for each octet of the largest packet, and 10.
+abbrev pub longestLine : Settings → ℕ
+longestLine settings = 3 * agreed settings .limit + 10
 
 -- the receiver and its areas afterwards, the page, and how many octets were used
 pub record Transcript : Type 0 where
@@ -54,7 +56,7 @@ printedAfter n t = record { after = t .after; page = t .page; used = n + t .used
 unfoldable pub printOn : ReceiverEnd → List ℕ → Page → Transcript
 printOn e [] p = record { after = e; page = p; used = 0 }
 printOn e (x ∷ xs) p =
-    if ltb (length (p .area)) (p .filled + longestLine) then record { after = e; page = p; used = 0 }
+    if ltb (length (p .area)) (p .filled + longestLine (e .state .settings)) then record { after = e; page = p; used = 0 }
     else (let h = receive e x in printedAfter 1 (printOn (h .after) xs (append p (lineOf h))))
 
 -- from the start of a page

@@ -1,11 +1,9 @@
 // What a stretch of a line comes to: its reports as lines on a page, and as counts (document 01, "Display, tally, capture program"). A program
 // reads, calls, and writes; all else it does is here.
 ghost use mathlib.Core.Path.{_≡_};
-ghost use Prim.Native.Nat.{min, _/_, _≤_};
+ghost use Prim.Native.Nat.{_≤_, _<_};
 ghost use lib.ListN.{length};
 ghost use Rattle.link.specs.Answers.{reportAnswer};
-ghost use Rattle.link.specs.Agreed.{bits16};
-ghost use Rattle.link.specs.Receiver.{openedReceiver};
 ghost use Rattle.link.specs.Runs.{received};
 ghost use Rattle.reader.specs.NothingLost.{reports};
 ghost use Rattle.tally.specs.Sums.{noted, isCounted};
@@ -13,24 +11,19 @@ ghost use Rattle.lines.specs.Lines.{append};
 ghost use Rattle.transcript.specs.Transcript.{shownOf, lineFor, longestLine, print};
 ghost use Rattle.transcript.specs.LinesOfReports.{LinesOfReports, RefusedCalls};
 ghost use Rattle.transcript.specs.NothingLeftOut.{NothingLeftOut, AllPrinted, AllCounted};
+use link::Settings;
 use link::receiver::Receiver;
 use link::receiver::Report;
 use tally::Tally;
 
-// The settings octet that a capture is read with: ZXE and PRE are both on. The check has 16 bits.
-const SETTINGS: u8 = 0x03;
-
-// The receiver that a capture is read with, fresh.
-pub fn opened() -> Receiver
-    ensures { λ r. ⌜ r ≡ openedReceiver (bits16 3) ⌝ }
-{
-    link::receiver::open16(SETTINGS)
-}
-
 // ---- lines
 
 // No line is longer: 3 octets for each of the largest packet's, and 10.
-pub const LONGEST_LINE: usize = 6154;
+pub fn longest_line(settings: Settings) -> usize
+    ensures { λ r. ⌜ r ≡ longestLine settings ⌝ }
+{
+    3 * (settings.limit as usize) + 10
+}
 
 // The receiver after the octets used, how many octets of the page are filled, and how many of the stretch were used.
 pub struct Printed {
@@ -109,13 +102,14 @@ pub fn print(
         (now (page .entry)) ⌝ }
     ensures { λ r. ⌜ (r .used ≤ length (now (octets .entry)))
         × (r .filled ≤ length (now (page .entry)))
-        × (min 1 (min (length (now (octets .entry))) (length (now (page .entry)) / longestLine)) ≤ r .used) ⌝ }
+        × (0 < length (now (octets .entry)) → longestLine (state .settings) ≤ length (now (page .entry)) → 1 ≤ r .used)
+        × (r .state .settings ≡ state .settings) ⌝ }
 {
     let mut end = state;
     let mut filled = 0usize;
     let mut at = 0usize;
     while at < octets.len() {
-        if page.len() - filled < LONGEST_LINE {
+        if page.len() - filled < longest_line(end.settings) {
             break;
         }
         let reached = reader::read_on(end, &octets[at..], first, second);

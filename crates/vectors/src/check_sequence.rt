@@ -13,6 +13,8 @@ pub(crate) fn run() {
     // f, r, g: of a packet its FCS; of both the register, which ends at F0B8, and whether the frame is good. Document 01's marked frames
     // (d), (a) and (c), the empty packet of its false friends, and refusal 14's example.
     rows::compare_all(
+        0,
+        0,
         b"e\x00\x00\x00\x07\x00\x02entry 0\x00\x00\
         e\x01\x00\x00\x07\x00\x02entry 1\x11\x89\
         e\x0b\x00\x00\x08\x00\x02entry 11\xbe\xd3\
@@ -40,6 +42,8 @@ pub(crate) fn run() {
     // it has right; the packets of the marked frames, and the test of RFC 1662's C.3: a packet and its FCS end at DEBB20E3. The numbers are
     // zlib's, which has the same check.
     rows::compare_all(
+        0,
+        0,
         b"E\x00\x00\x00\x10\x00\x0432 bits, entry 0\x00\x00\x00\x00\
         E\x01\x00\x00\x10\x00\x0432 bits, entry 1w\x070\x96\
         E\x0f\x00\x00\x11\x00\x0432 bits, entry 15\x90\xbf\x1d\x91\

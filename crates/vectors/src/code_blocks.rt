@@ -17,6 +17,8 @@ pub(crate) fn run() {
     // marked frames (a), (c) and (d), and at the edges of runs and of pairs.
     // n: the same, where so many octets are left and none is zero. The marked case (i) and its neighbours.
     rows::compare_all(
+        0,
+        0,
         b"c\x01\x00\x00\x04\x01\x03code\x01\x00\x00\x01\
         c\x01\x00\x00\x04\x01\x03code\xcf\x00\xce\x01\
         c\x01\x00\x00\x04\x01\x03code\xd0\x00\xcf\x00\

@@ -1,6 +1,6 @@
 // Lists of vectors: one byte string each, walked by one function, since each call and each function adds to the check's time. A row has
 // what is asked (a letter), the settings, a place and a number of repetitions; the counts of the octets of its name, of those that are
-// given and of those expected; and these octets.
+// given and of those expected; and these octets. A list has a width and a limit for all its rows, which only the two ends look at.
 ghost use Prim.Native.Nat.{_<_, _≤_};
 ghost use lib.ListN.{length};
 use crate::answers::Answers;
@@ -13,6 +13,8 @@ use libc::STDOUT_FILENO;
 pub(crate) struct Row {
     pub(crate) asked: u8,
     pub(crate) settings: u8,
+    pub(crate) width: u8,
+    pub(crate) limit: u16,
     pub(crate) at: u8,
     pub(crate) again: u8,
     name: usize,
@@ -25,7 +27,7 @@ pub(crate) fn octet(list: &[u8], at: usize) -> u8 {
     if at < list.len() { list[at] } else { 0 }
 }
 
-fn head(row: &[u8]) -> Row
+fn head(width: u8, limit: u16, row: &[u8]) -> Row
     ensures { λ r. ⌜ (7 ≤ r .name) × (r .name ≤ r .given) × (r .given ≤ r .expected) ⌝ }
 {
     let name = 7 + octet(row, 4) as usize;
@@ -34,6 +36,8 @@ fn head(row: &[u8]) -> Row
     Row {
         asked: octet(row, 0),
         settings: octet(row, 1),
+        width,
+        limit,
         at: octet(row, 2),
         again: octet(row, 3),
         name,
@@ -42,20 +46,20 @@ fn head(row: &[u8]) -> Row
     }
 }
 
-pub(crate) fn compare_all(rows: &[u8]) {
+pub(crate) fn compare_all(width: u8, limit: u16, rows: &[u8]) {
     let mut rest = rows;
     while 0 < rest.len() {
-        let n = compare(rest);
+        let n = compare(width, limit, rest);
         rest = &rest[n..];
     }
 }
 
 // The first row; answers its length. A row that is cut short ends the list.
-fn compare(rows: &[u8]) -> usize
+fn compare(width: u8, limit: u16, rows: &[u8]) -> usize
     requires { ⌜ 0 < length (now rows) ⌝ }
     ensures { λ r. ⌜ (0 < r) × (r ≤ length (now (rows .entry))) ⌝ }
 {
-    let row = head(rows);
+    let row = head(width, limit, rows);
     let name = row.name;
     let given = row.given;
     let end = row.expected;
@@ -82,8 +86,8 @@ fn answer(row: Row, octets: &[u8]) -> Answers {
             row,
             octets,
         ),
-        b'S' | b'H' | b'T' | b's' | b'u' | b'o' => two_ends::sent(row, octets),
-        b'R' | b'A' | b'L' | b'w' | b'a' | b'O' => two_ends::received(row, octets),
+        b'S' | b'H' | b'T' => two_ends::sent(row, octets),
+        b'R' | b'A' | b'L' => two_ends::received(row, octets),
         _ => code_blocks::answer(row, octets),
     }
 }

@@ -1,7 +1,9 @@
 // The two ends' vectors, run over the real calls: document 01's marked frames (a) to (h), and an example of each refusal.
 // An answer is an octet or a few: D for Done, R and the number of a refusal; P, the area, the length and the octets of a packet; H, the
 // count and whether it replaced; an octet sent is itself. Idle and Quiet give none.
+ghost use mathlib.Core.Path.{_≡_};
 ghost use Prim.Native.Nat.{_≤_};
+ghost use lib.ListN.{length};
 use crate::answers::Answers;
 use crate::answers::none;
 use crate::answers::push;
@@ -20,9 +22,11 @@ use link::sender::Sender;
 pub(crate) fn run() {
     // S: a packet in the low lane, H: in the high one, T: loaded twice. The marked frames (a) to (d), refusals 1 and 4.
     // R: octets received, where the one at a place comes so many times more. The marked captures (e) to (g), refusals 5, 7, 8, 9, 13 and
-    // 14; 6 and 11; the marked case (h), and refusals 10 and 12. A: the second area has 2,050 octets, L: the state has 208 data octets
+    // 14; 6 and 11; the marked case (h), and refusals 10 and 12. A: the second area is one octet too short, L: the state has 208 data octets
     // left. Refusals 2 and 3.
     rows::compare_all(
+        16,
+        2048,
         b"S\x03\x00\x00\x07\x02\x06sent of\x00\x00D\xe0\x03\x47\x0f\x7e\
         S\x03\x00\x00\x07\x02\x07sent of\x7e\x7eD\x05\x00\x00\x6a\xff\x7e\
         S\x03\x00\x00\x07\x09\x0esent of123456789D\x0c123456789\x6e\x90\x7e\
@@ -44,44 +48,87 @@ pub(crate) fn run() {
         R\x03\x00\x87\x19\x03\x02DF 136 times, reported of\xdf\xdc\x7eR\x0a\
         R\x03\x00\x88\x19\x02\x02DF 137 times, reported of\xdf\x7eR\x0a\
         R\x03\x01\xce\x19\x03\x0231 207 times, reported of\xd01\x7eR\x0c\
-        A\x03\x00\x00\x27\x01\x02second area of 2050 octets, reported of\x7eR\x02\
+        A\x03\x00\x00\x22\x01\x02second area one short, reported of\x7eR\x02\
         L\x03\x00\x00\x21\x01\x02208 data octets left, reported of\x7eR\x03",
     );
-    // The same with 32 bits (s, u: sent; w: received; a: the second area has 2,052 octets), and with 24 (o, O), which no end is opened with:
-    // both by document 02, slip 1.
+    // The same with 32 bits, and with 24, which no end is opened with: both by document 02, slip 1.
     rows::compare_all(
-        b"s\x03\x00\x00\x10\x09\x1032 bits, sent of123456789D\x0e123456789&9\xf4\xcb\x7e\
-        s\x03\x00\x00\x10\x02\x0832 bits, sent of\x00\x00D\xe0\x05\xff\x12\xd9A\x7e\
-        u\x00\x00\x00\x28\x02\x0932 bits, settings 00, high lane, sent of\x00\x00D\x01\x01\x05\xff\x12\xd9A\x7e\
-        s\x03\x00\x00\x10\x02\x0932 bits, sent of\x7e\x7eD\x07\x00\x00\xbc\x1a\xd8G\x7e\
-        s\x03\x00\x00\x10\x01\x0232 bits, sent of1R\x01\
-        w\x03\x00\x00\x14\x0f\x0c32 bits, reported of\x0e123456789&9\xf4\xcb\x7eP\x00\x09123456789\
-        w\x03\x00\x00\x14\x0d\x0232 bits, reported of\x0c123456789n\x90\x7eR\x0e\
-        w\x03\x00\x00\x14\x06\x0232 bits, reported of\x051111\x7eR\x0d\
-        w\x03\x00\x00\x14\x07\x0232 bits, reported of\x0611111\x7eR\x0d\
-        w\x03\x00\x00\x14\x08\x0232 bits, reported of\x07111111\x7eR\x0e\
-        w\x03\x00\x87\x22\x03\x0232 bits, DF 136 times, reported of\xdf\xdd\x7eR\x0e\
-        w\x03\x00\x87\x22\x03\x0232 bits, DF 136 times, reported of\xdf\xde\x7eR\x0a\
-        a\x03\x00\x00\x30\x01\x0232 bits, second area of 2052 octets, reported of\x7eR\x02\
-        o\x03\x00\x00\x10\x01\x0224 bits, sent of1R\x03\
-        O\x03\x00\x00\x14\x01\x0224 bits, reported of\x7eR\x03",
+        32,
+        2048,
+        b"S\x03\x00\x00\x10\x09\x1032 bits, sent of123456789D\x0e123456789&9\xf4\xcb\x7e\
+        S\x03\x00\x00\x10\x02\x0832 bits, sent of\x00\x00D\xe0\x05\xff\x12\xd9A\x7e\
+        H\x00\x00\x00\x28\x02\x0932 bits, settings 00, high lane, sent of\x00\x00D\x01\x01\x05\xff\x12\xd9A\x7e\
+        S\x03\x00\x00\x10\x02\x0932 bits, sent of\x7e\x7eD\x07\x00\x00\xbc\x1a\xd8G\x7e\
+        S\x03\x00\x00\x10\x01\x0232 bits, sent of1R\x01\
+        R\x03\x00\x00\x14\x0f\x0c32 bits, reported of\x0e123456789&9\xf4\xcb\x7eP\x00\x09123456789\
+        R\x03\x00\x00\x14\x0d\x0232 bits, reported of\x0c123456789n\x90\x7eR\x0e\
+        R\x03\x00\x00\x14\x06\x0232 bits, reported of\x051111\x7eR\x0d\
+        R\x03\x00\x00\x14\x07\x0232 bits, reported of\x0611111\x7eR\x0d\
+        R\x03\x00\x00\x14\x08\x0232 bits, reported of\x07111111\x7eR\x0e\
+        R\x03\x00\x87\x22\x03\x0232 bits, DF 136 times, reported of\xdf\xdd\x7eR\x0e\
+        R\x03\x00\x87\x22\x03\x0232 bits, DF 136 times, reported of\xdf\xde\x7eR\x0a\
+        A\x03\x00\x00\x2b\x01\x0232 bits, second area one short, reported of\x7eR\x02",
     );
-}
-
-// The width that is asked for.
-fn width(asked: u8) -> u8 {
-    match asked {
-        b's' | b'u' | b'w' | b'a' => 32,
-        b'o' | b'O' => 24,
-        _ => 16,
-    }
+    rows::compare_all(
+        24,
+        2048,
+        b"S\x03\x00\x00\x10\x01\x0224 bits, sent of1R\x03\
+        R\x03\x00\x00\x14\x01\x0224 bits, reported of~R\x03",
+    );
+    // The least limit and the largest one, and some that no end is opened with, whatever the width: by slip 11.
+    rows::compare_all(
+        16,
+        2,
+        b"S\x03\x00\x00\x10\x02\x07limit 2, sent ofABD\x05AB\xef1~\
+        S\x03\x00\x00\x10\x03\x02limit 2, sent of123R\x01\
+        S\x03\x00\x00\x10\x01\x02limit 2, sent of1R\x01\
+        R\x03\x00\x00\x14\x06\x05limit 2, reported of\x05AB\xef1~P\x00\x02AB\
+        R\x03\x00\x00\x14\x07\x02limit 2, reported of\x06123\xb4\x9c~R\x0a\
+        R\x03\x00\x00\x14\x02\x02limit 2, reported of\xd5~R\x0e\
+        R\x03\x00\x00\x14\x02\x02limit 2, reported of\xd6~R\x0a\
+        A\x03\x00\x00\x2b\x01\x02limit 2, second area one short, reported of~R\x02",
+    );
+    rows::compare_all(
+        32,
+        16384,
+        b"S\x03\x00\x00\x1e\x09\x1032 bits, limit 16,384, sent of123456789D\x0e123456789&9\xf4\xcb~\
+        R\x03\x00\x00\x22\x0f\x0c32 bits, limit 16,384, reported of\x0e123456789&9\xf4\xcb~P\x00\x09123456789\
+        A\x03\x00\x00\x39\x01\x0232 bits, limit 16,384, second area one short, reported of~R\x02",
+    );
+    rows::compare_all(
+        24,
+        1,
+        b"S\x03\x00\x00\x19\x01\x0224 bits, limit 1, sent of1R\x17\
+        R\x03\x00\x00\x1d\x01\x0224 bits, limit 1, reported of~R\x17",
+    );
+    rows::compare_all(
+        16,
+        16385,
+        b"S\x03\x00\x00\x15\x01\x02limit 16,385, sent of1R\x17\
+        R\x03\x00\x00\x19\x01\x02limit 16,385, reported of~R\x17",
+    );
 }
 
 fn settings(row: Row) -> Settings {
     Settings {
         octet: row.settings,
-        width: width(row.asked),
+        width: row.width,
+        limit: row.limit,
     }
+}
+
+// A packet as long as the limit, and its FCS, an octet for each eight bits.
+fn longest_frame(row: Row) -> usize
+    ensures { λ r. ⌜ r ≤ 65566 ⌝ }
+{
+    row.limit as usize + (row.width / 8) as usize
+}
+
+// Room for all that is decoded with 32 bits and the largest limit.
+fn buffer() -> [u8; 16389]
+    ensures { λ r. ⌜ 16389 ≡ length r ⌝ }
+{
+    [0; 16389]
 }
 
 fn refused(answers: Answers, n: u8) -> Answers {
@@ -120,16 +167,28 @@ fn load_fresh(row: Row, state: Sender, lane: Lane, packet: &[u8], area: &mut [u8
     once
 }
 
-// It is then asked for octets until it is idle.
-fn sent_by(state: Sender, row: Row, packet: &[u8]) -> Answers {
-    let mut area = [0u8; 2052];
-    let empty = [0u8; 2052];
-    if (row.asked == b'H') | (row.asked == b'u') {
-        let high = load_fresh(row, state, Lane::High, packet, &mut area);
-        return drain(high, &empty, &area);
+// It is then asked for octets until it is idle. empty: the area of the lane that is not loaded.
+fn sent_from<'a>(
+    state: Sender,
+    row: Row,
+    packet: &[u8],
+    area: &'a mut [u8],
+    empty: &'a [u8],
+) -> Answers {
+    if row.asked == b'H' {
+        let high = load_fresh(row, state, Lane::High, packet, area);
+        return drain(high, empty, area);
     }
-    let low = load_fresh(row, state, Lane::Low, packet, &mut area);
-    drain(low, &area, &empty)
+    let low = load_fresh(row, state, Lane::Low, packet, area);
+    drain(low, area, empty)
+}
+
+// The areas are just as long as was agreed.
+fn sent_by(state: Sender, row: Row, packet: &[u8]) -> Answers {
+    let mut area = buffer();
+    let empty = buffer();
+    let n = cobs::lesser(longest_frame(row), 16389);
+    sent_from(state, row, packet, &mut area[0..n], &empty[0..n])
 }
 
 pub(crate) fn sent(row: Row, packet: &[u8]) -> Answers {
@@ -162,15 +221,12 @@ fn told(answers: Answers, answer: NextAnswer) -> Answers {
     }
 }
 
-fn lent(asked: u8) -> usize
-    ensures { λ r. ⌜ r ≤ 2053 ⌝ }
-{
-    match asked {
-        b'A' => 2050,
-        b'a' => 2052,
-        b'w' => 2053,
-        _ => 2051,
+// How many octets of the second area are lent: as many as was agreed, or one fewer.
+fn lent(row: Row) -> usize {
+    if row.asked == b'A' {
+        return longest_frame(row);
     }
+    longest_frame(row) + 1
 }
 
 // A fresh receiver takes the octets.
@@ -183,14 +239,26 @@ pub(crate) fn received(row: Row, line: &[u8]) -> Answers {
 }
 
 fn received_by(fresh: Receiver, row: Row, line: &[u8]) -> Answers {
-    let mut first = [0u8; 2053];
-    let mut second = [0u8; 2053];
+    let mut first = buffer();
+    let mut second = buffer();
     let mut state = fresh;
     if row.asked == b'L' {
         state.left = 208;
     }
-    let n = lent(row.asked);
-    feed(state, row, line, &mut first, &mut second[0..n])
+    let n = lent(row);
+    received_in(state, row, line, n, &mut first, &mut second)
+}
+
+fn received_in(
+    state: Receiver,
+    row: Row,
+    line: &[u8],
+    lent: usize,
+    first: &mut [u8],
+    second: &mut [u8],
+) -> Answers {
+    let n = cobs::lesser(lent, second.len());
+    feed(state, row, line, first, &mut second[0..n])
 }
 
 // Which octet of the line comes as the i-th, where the one at a place comes so many times more.

@@ -57,13 +57,13 @@ ends e line i l = let z : length line - i ≡ 0 = omega arith in rw z (stays i l
 pub ready-after : (e : SenderEnd) (a : NextAnswer) (t : Sender) → record { answer = nextAnswer a; state = t } ≡ seen (next e) → (x : ℕ) → a ≡ Octet x → SenderReady (with t e)
 ready-after e a t p x q = octet-ready e x t (rw q at p)
 
--- nor does a call change the width
-pub width-stays : (e : SenderEnd) (a : NextAnswer) (t : Sender) → record { answer = nextAnswer a; state = t } ≡ seen (next e) → t .settings .width ≡ e .state .settings .width
-width-stays e a t p = ap (λ (h : Next). h .state .settings .width) p ∙ ap (λ (x : Settings). x .width) (settings-stay .next e)
+-- nor does a call change the settings
+pub settings-kept : (e : SenderEnd) (a : NextAnswer) (t : Sender) → record { answer = nextAnswer a; state = t } ≡ seen (next e) → t .settings ≡ e .state .settings
+settings-kept e a t p = ap (λ (h : Next). h .state .settings) p ∙ settings-stay .next e
 
--- a sender with a width stored in it; where it is its own, it writes on as it did
-abbrev withWidth : ℕ → Sender → Sender
-withWidth w s =
+-- a sender with settings stored in it; where they are its own, it writes on as it did
+abbrev withSettings : Settings → Sender → Sender
+withSettings t s =
     record {
       low = s .low;
       high = s .high;
@@ -72,12 +72,12 @@ withWidth w s =
       on = s .on;
       suspended = s .suspended;
       cut = s .cut;
-      settings = record { octet = s .settings .octet; width = w };
+      settings = t;
     }
 
-pub width-stored : (s : Sender) (w i : ℕ) (line : List ℕ) (n : ℕ) (al ah : List ℕ) → s .settings .width ≡ w
-    → fromPlace i line (writeOn n (record { state = s; low = al; high = ah })) ≡ fromPlace i line (writeOn n (record { state = withWidth w s; low = al; high = ah }))
-width-stored s w i line n al ah e = ap (λ (x : ℕ). fromPlace i line (writeOn n (record { state = withWidth x s; low = al; high = ah }))) e
+pub settings-stored : (s : Sender) (t : Settings) (i : ℕ) (line : List ℕ) (n : ℕ) (al ah : List ℕ) → s .settings ≡ t
+    → fromPlace i line (writeOn n (record { state = s; low = al; high = ah })) ≡ fromPlace i line (writeOn n (record { state = withSettings t s; low = al; high = ah }))
+settings-stored s t i line n al ah e = ap (λ (x : Settings). fromPlace i line (writeOn n (record { state = withSettings x s; low = al; high = ah }))) e
 
 -- by the answer of a call
 module _ (e : SenderEnd) (line : List ℕ) (i : ℕ) (l : i < length line) (a : NextAnswer) (t : Sender) (p : record { answer = nextAnswer a; state = t } ≡ seen (next e)) where

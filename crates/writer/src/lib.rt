@@ -37,7 +37,7 @@ fn stretch(state: Sender, low: &[u8], high: &[u8], line: &mut [u8], at: usize) -
     ensures { λ r. ⌜ fromPlace at (now (line .entry)) (writeOn (length (now (line .entry)) - at) (record { state = state; low = now (low .entry); high = now (high .entry) }))
         ≡ fromPlace (r .filled) (now (line .exit)) (writeOn (length (now (line .exit)) - r .filled) (record { state = r .state; low = now (low .entry); high = now (high .entry) })) ⌝ }
     ensures { λ r. ⌜ (at ≤ r .filled) × (r .filled ≤ length (now (line .exit))) ⌝ }
-    ensures { λ r. ⌜ r .state .settings .width ≡ state .settings .width ⌝ }
+    ensures { λ r. ⌜ r .state .settings ≡ state .settings ⌝ }
 {
     let on = state.on;
     let left = state.left;
@@ -84,7 +84,7 @@ pub fn write_on(state: Sender, low: &[u8], high: &[u8], line: &mut [u8]) -> Fill
         ≡ onto (now (line .entry)) (writeOn (length (now (line .entry))) (record { state = state; low = now (low .entry); high = now (high .entry) })) ⌝ }
     ensures { λ r. ⌜ r .filled ≤ length (now (line .entry)) ⌝ }
 {
-    let width = state.settings.width;
+    let settings = state.settings;
     let mut end = state;
     let mut i = 0;
     while i < line.len() {
@@ -104,8 +104,8 @@ pub fn write_on(state: Sender, low: &[u8], high: &[u8], line: &mut [u8]) -> Fill
         }
         let stretched = stretch(end, low, high, line, i);
         end = stretched.state;
-        // No call changes the width. Said here, it is known to be the same at every turn, and what is tested of it is tested once.
-        end.settings.width = width;
+        // No call changes the settings. Said here, they are known to be the same at every turn, and what is tested of them is tested once.
+        end.settings = settings;
         i = stretched.filled;
     }
     FilledLine {

@@ -20,7 +20,7 @@ same-block n low s = refl
 same-block n high s = refl
 
 -- a state in bounds
-module _ (s : Sender) (h : inBounds (agreed (s .settings)) s ≡ true) where
+module _ (s : Sender) (v : valid (agreed (s .settings)) ≡ true) (h : inBounds (agreed (s .settings)) s ≡ true) where
   abbrev g : Agreed
   g = agreed (s .settings)
 
@@ -32,7 +32,7 @@ module _ (s : Sender) (h : inBounds (agreed (s .settings)) s ≡ true) where
 
   ready : (q : LaneState) (area : List ℕ) → LaneOk g q → largestFrame g ≤ length area → q .position + (s .left + s .zeros) ≤ q .length + 1
       → LaneReady g q (s .left) (s .zeros) area
-  ready q area ok l room = record { short = most g q ok; long = l; fewZeros = facts .two; inD = omega arith }
+  ready q area ok l room = record { valid = v; short = most g q ok; long = l; fewZeros = facts .two; inD = omega arith }
 
   -- with no lane on the line nothing is left, so either lane may be put on it
   pub free : (area other : List ℕ) → largestFrame g ≤ length area → largestFrame g ≤ length other → s .on ≡ noLane
@@ -114,7 +114,7 @@ module _ (e : SenderEnd) (v : valid (agreed (e .state .settings)) ≡ true)
 
   pub low-sends : e .state .on ≡ sending low → e .state .high .length ≡ 0 → next e ≡ step5Data low (e .state) (laneD (e .state .low) (e .low))
   low-sends o z =
-      let r = line (e .state) h (sending low) o in
+      let r = line (e .state) v h (sending low) o in
       sends low o (whole (e .state .cut) (r .2)) (rw z (alone (agreed (e .state .settings) .pre))) (omega (arith, r .0 .room, some))
     where
       whole : (c : Bool) → (c ≡ true → e .state .left ≡ 0) → c ≡ false
@@ -126,4 +126,4 @@ module _ (e : SenderEnd) (v : valid (agreed (e .state .settings)) ≡ true)
       alone false = refl
 
   pub high-sends : e .state .on ≡ sending high → next e ≡ step5Data high (e .state) (laneD (e .state .high) (e .high))
-  high-sends o = let r = line (e .state) h (sending high) o in sends high o (r .1) refl (omega (arith, r .0 .room, some))
+  high-sends o = let r = line (e .state) v h (sending high) o in sends high o (r .1) refl (omega (arith, r .0 .room, some))

@@ -100,10 +100,10 @@ before-flag-requires-2 : tie.Need-before-flag-requires-2
 before-flag-requires-2 c κs = search needs
 
 add-decoded : tie.Need-add-decoded
-add-decoded c = omega (arith, used c, most (c .before .before), decoded-at-most (start c .args .state .settings))
+add-decoded c = omega (arith, used c, most (c .before .before), decoded-at-most (start c .args .state .settings) (start c .pre .valid))
 
 cast-decoded : tie.Need-cast-decoded
-cast-decoded c = omega (arith, used c, most (c .before .before), decoded-at-most (start c .args .state .settings))
+cast-decoded c = omega (arith, used c, most (c .before .before), decoded-at-most (start c .args .state .settings) (start c .pre .valid))
 
 sub-left : tie.Need-sub-left
 sub-left c = omega (arith, used c, most (c .before .before))

@@ -29,7 +29,7 @@ add-position c =
     let s = o .before .before .before .before .before .before in
     let on = o .on .given .1 ∙ ap Sending (c .before .before .before .before .before .before .before .before .enum-told2 .given .1) in
     let b = block-in-area low _ (s .pre .0) on in
-    omega (arith, b, frame-at-most (s .args .state .settings), l .lesser .ensures, o .before .before .if1 .left)
+    omega (arith, b, frame-at-most (s .args .state .settings) (s .pre .0 .valid), l .lesser .ensures, o .before .before .if1 .left)
 
 copy-requires-2 : tie.Need-copy-requires-2
 copy-requires-2 c κs =
@@ -47,7 +47,7 @@ add-position-2 c =
     let s = o .before .before .before .before .before .before in
     let on = o .on .given .1 ∙ ap Sending (c .before .before .before .before .before .before .enum-told3 .given .1) in
     let b = block-in-area high _ (s .pre .0) on in
-    omega (arith, b, frame-at-most (s .args .state .settings), l .lesser .ensures, o .before .before .if1 .left)
+    omega (arith, b, frame-at-most (s .args .state .settings) (s .pre .0 .valid), l .lesser .ensures, o .before .before .if1 .left)
 
 returns-4 : tie.Need-returns-4
 returns-4 c =

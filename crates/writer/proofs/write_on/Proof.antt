@@ -8,20 +8,20 @@ use native.Mathlib.Omega.{arith}
 use borrow.Author.Tests.{eq-eqb, ne-eqb}
 use lib.ListN.{length, length-set}
 use Rattle.writer.specs.Writing.{writeOn, onto, fromPlace}
-use Rattle.writer.proofs.Steps.{goes-on, ready-after, width-stays, width-stored, at-flag, stops, ends}
+use Rattle.writer.proofs.Steps.{goes-on, ready-after, settings-kept, settings-stored, at-flag, stops, ends}
 use Rattle.writer.proofs.write_on.Statement.{statement}
 use Rattle.writer.proofs.write_on.Tie as tie
 
 abbrev Inv-loop : tie.InvT-loop
-Inv-loop low high line₀ width end₀ i₀ line end i =
+Inv-loop low high line₀ settings end₀ i₀ line end i =
     (i ≤ length line)
     × (length line ≡ length line₀)
-    × (end .settings .width ≡ width)
+    × (end .settings ≡ settings)
     × (onto line₀ (writeOn (length line₀) (record { state = end₀; low = low; high = high }))
     ≡ fromPlace i line (writeOn (length line - i) (record { state = end; low = low; high = high })))
 
 abbrev μ-loop : tie.MeasureT-loop
-μ-loop low high line₀ width end₀ i₀ line end i = length line₀ - i
+μ-loop low high line₀ settings end₀ i₀ line end i = length line₀ - i
 
 loop-holds : tie.Need-loop-holds Inv-loop μ-loop
 loop-holds c = (search needs, search needs, refl, simp (sub-zero, zero-add))
@@ -53,26 +53,26 @@ stretch-requires c κs =
 
 loop-less : tie.Need-loop-less Inv-loop μ-loop
 loop-less c =
-    let k = c .before .before .before .before in
+    let k = c .before .before .before in
     let n = k .before .before .before .before .before .before .before .before in
     omega (arith, k .stretch .ensures .1 .0 .0, n .loop-test .taken, n .before .loop .inv .1)
 
 loop-again : tie.Need-loop-again Inv-loop μ-loop
 loop-again c =
-    let l = c .before .before .before in
+    let l = c .before .before in
     let k = l .before in
     let a = k .before .before .before .before .before in
     let p = a .before .before in
     let n = p .before in
     let v = n .before .loop .inv in
-    let h = k .stretch .ensures .1 .1 ∙ width-stays _ (p .next-octet .result .answer) _ (p .next-octet .ensures) ∙ v .2 in (
+    let h = k .stretch .ensures .1 .1 ∙ settings-kept _ (p .next-octet .result .answer) _ (p .next-octet .ensures) ∙ v .2 in (
       k .stretch .ensures .1 .0 .1,
       l .line .given ∙ simp length-set (v .1),
       refl,
       v .3
           ∙ goes-on _ _ _ (n .loop-test .taken) _ _ (p .next-octet .ensures) _ (a .answer .given .1) (ne-eqb _ _ (k .before .before .if1 .left))
           ∙ k .stretch .ensures .0
-          ∙ width-stored (k .stretch .result .state) _ _ _ _ _ _ h,
+          ∙ settings-stored (k .stretch .result .state) _ _ _ _ _ _ h,
     )
 
 same-length-2 : tie.Need-same-length-2 Inv-loop μ-loop

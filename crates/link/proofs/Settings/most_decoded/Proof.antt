@@ -1,7 +1,7 @@
 -- `link::Settings::most_decoded`.
 use native.Mathlib.Omega.{arith}
 use borrow.Author.Needs.{needs}
-use Rattle.link.proofs.Agreed.{frame-at-most}
+use Rattle.link.proofs.Agreed.{limit-is, fcs-at-most}
 use Rattle.link.proofs.Settings.most_decoded.Statement.{statement}
 use Rattle.link.proofs.Settings.most_decoded.Tie as tie
 
@@ -9,7 +9,7 @@ largest-frame-requires : tie.Need-largest-frame-requires
 largest-frame-requires c κs = search needs
 
 add-result : tie.Need-add-result
-add-result c = record { fits = omega (arith, c .largest-frame .ensures, frame-at-most (c .before .args .self)) }
+add-result c = let t = c .before .args .self in record { fits = omega (arith, c .largest-frame .ensures, limit-is t, fcs-at-most t) }
 
 returns : tie.Need-returns
 returns c = search needs

@@ -5,20 +5,37 @@ use borrow.Author.Tests.{not-true, not-false}
 use Rattle.link.proofs.receiver.open.Statement.{statement}
 use Rattle.link.proofs.receiver.open.Tie as tie
 
-valid-requires : tie.Need-valid-requires
-valid-requires c κs = search needs
+valid-limit-requires : tie.Need-valid-limit-requires
+valid-limit-requires c κs = search needs
 
 returns : tie.Need-returns
-returns c = let v = c .before .valid in rw (sym (v .ensures) ∙ not-true (v .result) (c .if1 .taken))
+returns c = let v = c .before .valid-limit in rw (sym (v .ensures) ∙ not-true (v .result) (c .if1 .taken))
+
+valid-width-requires : tie.Need-valid-width-requires
+valid-width-requires c κs = search needs
+
+returns-2 : tie.Need-returns-2
+returns-2 c =
+    let w = c .before in
+    let v = w .before .before in
+    rw (
+      sym (v .valid-limit .ensures) ∙ not-false (v .valid-limit .result) (w .before .if1 .left),
+      sym (w .valid-width .ensures) ∙ not-true (w .valid-width .result) (c .if2 .taken),
+    )
 
 out-of-frame-requires : tie.Need-out-of-frame-requires
 out-of-frame-requires c κs = search needs
 
-returns-2 : tie.Need-returns-2
-returns-2 c =
+returns-3 : tie.Need-returns-3
+returns-3 c =
     let i = c .before in
-    let v = i .before .valid in
-    rw (c .out-of-frame .ensures, sym (v .ensures) ∙ not-false (v .result) (i .if1 .left))
+    let w = i .before in
+    let v = w .before .before in
+    rw (
+      c .out-of-frame .ensures,
+      sym (v .valid-limit .ensures) ∙ not-false (v .valid-limit .result) (w .before .if1 .left),
+      sym (w .valid-width .ensures) ∙ not-false (w .valid-width .result) (i .if2 .left),
+    )
 
 pub open-spec : {M : Type 1} → statement M
-open-spec = tie.close (tie.spec valid-requires returns out-of-frame-requires returns-2)
+open-spec = tie.close (tie.spec valid-limit-requires returns valid-width-requires returns-2 out-of-frame-requires returns-3)

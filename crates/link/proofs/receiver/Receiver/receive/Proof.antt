@@ -114,12 +114,12 @@ from-line-requires c κs = search needs
 steps-1-to-4-requires : tie.Need-steps-1-to-4-requires
 steps-1-to-4-requires c κs =
     let n = c .before .before .before in
-    (n .if6 .left, long (n .before .before .before .before .before) .1)
+    (n .if6 .left, ok (n .before .before .before), long (n .before .before .before .before .before) .1)
 
 steps-1-to-4-requires-2 : tie.Need-steps-1-to-4-requires-2
 steps-1-to-4-requires-2 c κs =
     let n = c .before .before .before in
-    (n .if6 .left, long (n .before .before .before .before .before) .0)
+    (n .if6 .left, ok (n .before .before .before), long (n .before .before .before .before .before) .0)
 
 same-length-3 : tie.Need-same-length-3
 same-length-3 c = search needs

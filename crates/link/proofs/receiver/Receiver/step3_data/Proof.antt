@@ -34,7 +34,9 @@ add-next : tie.Need-add-next
 add-next c = search needs
 
 cast-next : tie.Need-cast-next
-cast-next c = record { fits = omega (arith, room c, decoded-at-most (c .before .before .before .before .args .self .settings)) }
+cast-next c =
+    let s = c .before .before .before .before in
+    record { fits = omega (arith, room c, decoded-at-most (s .args .self .settings) (s .pre .1)) }
 
 step3-zeros-requires : tie.Need-step3-zeros-requires
 step3-zeros-requires c κs = search needs

@@ -41,7 +41,8 @@ add-next c = search needs
 cast-next : tie.Need-cast-next
 cast-next c =
     let i = c .before .before .before .before in
-    record { fits = omega (arith, room i, decoded-at-most (i .before .before .before .before .args .self .settings)) }
+    let s = i .before .before .before .before in
+    record { fits = omega (arith, room i, decoded-at-most (s .args .self .settings) (s .pre .0)) }
 
 same-length : tie.Need-same-length
 same-length c = search needs

@@ -25,7 +25,7 @@ steps-1-to-6-requires : tie.Need-steps-1-to-6-requires
 steps-1-to-6-requires c κs =
     let b = c .before in
     let l = b .before .before .before .pre in
-    (sym (b .in-bounds .ensures) ∙ not-false (b .in-bounds .result) (c .if1 .left), l .1, l .2)
+    (l .0, sym (b .in-bounds .ensures) ∙ not-false (b .in-bounds .result) (c .if1 .left), l .1, l .2)
 
 returns-2 : tie.Need-returns-2
 unfolding next

@@ -67,6 +67,9 @@ returns-3 c =
     (sym (load-out-of-bounds (a .lane) (a .packet .now) (a .self) (a .area .now) (ok (s .before .before)) (le-ltb _ _ (long s))
     (sym (b .in-bounds .ensures) ∙ not-true (b .in-bounds .result) (i .if3 .taken))))
 
+cast-limit : tie.Need-cast-limit
+cast-limit c = search needs
+
 lane-state-requires : tie.Need-lane-state-requires
 lane-state-requires c κs = search needs
 
@@ -75,12 +78,12 @@ load-refused-requires-4 c κs = search needs
 
 -- behind the third the state is in bounds
 abbrev begun : tie.After-lane-state → tie.Else2
-begun c = c .before .before .before
+begun c = c .before .before .before .before
 
 within : (c : tie.After-lane-state)
     → (let s = start (begun c .before .before) .args .self in
     inBounds (agreed (s .settings)) s ≡ true)
-within c = sym (c .before .before .in-bounds .ensures) ∙ not-false (c .before .before .in-bounds .result) (c .before .if3 .left)
+within c = let b = c .before .before .before .in-bounds in sym (b .ensures) ∙ not-false (b .result) (c .before .before .if3 .left)
 
 returns-4 : tie.Need-returns-4
 returns-4 c =
@@ -112,7 +115,7 @@ put-frame-requires c κs =
     let s = c .before in
     let b = begun (s .before .before) in
     let n = length (start (b .before .before) .args .packet .now) in
-    (not-below n 2 _ n (s .if5 .left) .1, long b)
+    (ok (b .before .before), not-below n 2 _ n (s .if5 .left) .1, long b)
 
 same-length : tie.Need-same-length
 same-length c = search needs
@@ -142,6 +145,7 @@ load-spec =
     in-bounds-requires
     load-refused-requires-3
     returns-3
+    cast-limit
     lane-state-requires
     load-refused-requires-4
     returns-4

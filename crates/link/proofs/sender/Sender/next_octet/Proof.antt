@@ -84,7 +84,7 @@ step5-data-requires c κs =
     let t = c .before .before in
     let b = t .before .before .before .before .before in
     let d = c .before .low-sends-on .ensures (c .if3 .taken) .0 in
-    (d .dataLeft, low-on (start b .args .self) (d .bounds (low-is-on t)) _ (long b .0) (low-is-on t))
+    (d .dataLeft, low-on (start b .args .self) (taken b) (d .bounds (low-is-on t)) _ (long b .0) (low-is-on t))
 
 returns-3 : tie.Need-returns-3
 returns-3 c =
@@ -111,7 +111,7 @@ step5-data-requires-2 c κs =
     let t = c .before .before in
     let b = t .before .before .before .before .before in
     let d = c .before .high-sends-on .ensures (c .if4 .taken) in
-    (d .dataLeft, high-on (start b .args .self) (d .bounds (high-is-on t)) _ (long b .1) (high-is-on t))
+    (d .dataLeft, high-on (start b .args .self) (taken b) (d .bounds (high-is-on t)) _ (long b .1) (high-is-on t))
 
 returns-4 : tie.Need-returns-4
 returns-4 c =

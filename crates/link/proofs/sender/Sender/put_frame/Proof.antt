@@ -2,7 +2,7 @@
 use native.Mathlib.Omega.{arith}
 use borrow.Author.Needs.{needs}
 use Rattle.link.specs.Agreed.{agreed}
-use Rattle.link.proofs.Agreed.{limit-is, fcs-at-most}
+use Rattle.link.proofs.Agreed.{limit-at-most, fcs-at-most}
 use Rattle.link.proofs.sender.Load.{put-is}
 use Rattle.link.proofs.sender.Sender.put_frame.Statement.{statement}
 use Rattle.link.proofs.sender.Sender.put_frame.Tie as tie
@@ -23,7 +23,7 @@ cast-t14 : tie.Need-cast-t14
 cast-t14 c =
     let s = c .before .before .before .before .before .before .before .before .before .before .before in
     let t = s .args .self .settings in
-    record { fits = omega (arith, c .fcs-length .ensures, s .pre .0, limit-is t, fcs-at-most t) }
+    record { fits = omega (arith, c .fcs-length .ensures, s .pre .1, limit-at-most (agreed t) (s .pre .0), fcs-at-most t) }
 
 with-lane-requires : tie.Need-with-lane-requires
 with-lane-requires c κs = search needs

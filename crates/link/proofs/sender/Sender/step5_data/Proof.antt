@@ -19,7 +19,7 @@ add-cover c =
 cover-requires : tie.Need-cover-requires
 cover-requires c κs =
     let s = c .before .before .before .before .before .before in
-    omega (arith, s .pre .1 .inD, s .pre .1 .short, s .pre .0, frame-at-most (s .args .self .settings))
+    omega (arith, s .pre .1 .inD, s .pre .1 .short, s .pre .0, frame-at-most (s .args .self .settings) (s .pre .1 .valid))
 
 returns : tie.Need-returns
 unfolding step5Data
@@ -31,7 +31,7 @@ returns c =
 cover-requires-2 : tie.Need-cover-requires-2
 cover-requires-2 c κs =
     let s = c .before .before .before .before .before .before in
-    omega (arith, s .pre .1 .inD, s .pre .1 .short, s .pre .0, frame-at-most (s .args .self .settings))
+    omega (arith, s .pre .1 .inD, s .pre .1 .short, s .pre .0, frame-at-most (s .args .self .settings) (s .pre .1 .valid))
 
 returns-2 : tie.Need-returns-2
 unfolding step5Data

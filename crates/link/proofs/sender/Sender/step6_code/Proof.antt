@@ -9,7 +9,7 @@ use Rattle.link.proofs.sender.Sender.step6_code.Statement.{statement}
 use Rattle.link.proofs.sender.Sender.step6_code.Tie as tie
 
 cover-requires : tie.Need-cover-requires
-cover-requires c κs = let s = c .before .before .before in omega (arith, s .pre, frame-at-most (s .args .self .settings))
+cover-requires c κs = let s = c .before .before .before in omega (arith, s .pre .1, frame-at-most (s .args .self .settings) (s .pre .0))
 
 returns : tie.Need-returns
 unfolding step6Code

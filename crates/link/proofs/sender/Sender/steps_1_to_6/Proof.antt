@@ -19,7 +19,7 @@ enum-told c = search needs
 step2-no-lane-requires : tie.Need-step2-no-lane-requires
 step2-no-lane-requires c κs =
     let s = c .before .before .before .before .before in
-    free (s .args .self) (s .pre .0) _ _ (s .pre .1) (s .pre .2) (c .enum-told .given .1)
+    free (s .args .self) (s .pre .0) (s .pre .1) _ _ (s .pre .2) (s .pre .3) (c .enum-told .given .1)
 
 enum-known-on : tie.Need-enum-known-on
 enum-known-on c = search needs
@@ -31,7 +31,7 @@ steps-3-to-6-requires : tie.Need-steps-3-to-6-requires
 steps-3-to-6-requires c κs =
     let k = c .before .before in
     let s = k .before .before .before .before .before .before in
-    low-on (s .args .self) (s .pre .0) _ (s .pre .1) (k .before .on .given .1 ∙ ap sending (c .enum-told2 .given .1))
+    low-on (s .args .self) (s .pre .0) (s .pre .1) _ (s .pre .2) (k .before .on .given .1 ∙ ap sending (c .enum-told2 .given .1))
 
 enum-told-3 : tie.Need-enum-told-3
 enum-told-3 c = search needs
@@ -40,7 +40,7 @@ steps-3-to-6-requires-2 : tie.Need-steps-3-to-6-requires-2
 steps-3-to-6-requires-2 c κs =
     let k = c .before .before in
     let s = k .before .before .before .before .before .before in
-    high-on (s .args .self) (s .pre .0) _ (s .pre .2) (k .before .on .given .1 ∙ ap sending (c .enum-told3 .given .1))
+    high-on (s .args .self) (s .pre .0) (s .pre .1) _ (s .pre .3) (k .before .on .given .1 ∙ ap sending (c .enum-told3 .given .1))
 
 returns-2 : tie.Need-returns-2
 unfolding steps1To6

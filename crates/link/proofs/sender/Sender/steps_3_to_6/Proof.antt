@@ -67,7 +67,8 @@ step6-code-requires : tie.Need-step6-code-requires
 step6-code-requires c κs =
     let e = c .before .before .before .before .before .before .before .before in
     let q = e .before .before .before in
-    omega (arith, q .before .before .pre .short, rw (q .lane-state .ensures) at (e .if1 .left))
+    let p = q .before .before .pre in
+    (p .valid, omega (arith, p .short, rw (q .lane-state .ensures) at (e .if1 .left)))
 
 returns-4 : tie.Need-returns-4
 unfolding steps3To6
