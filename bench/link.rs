@@ -18,7 +18,7 @@ const FLAG: u8 = 0x7E;
 const STAND_IN: u8 = 0x00;
 /// First octet of a resumed frame.
 const RESUME: u8 = 0xD1;
-/// First octet of a frame that isn't for us.
+/// First octet of a frame that isn't for us, as a peer sends that has restarted; what is held goes.
 const FOREIGN: u8 = 0xFF;
 /// Code of a full block: 207 data octets and no zero.
 const FULL_CODE: u8 = 0xD0;
@@ -220,7 +220,10 @@ impl Frame {
     #[inline(never)]
     fn code(&mut self, mut cursor: Cursor, code: u8) -> Cursor {
         match self.phase {
-            Phase::Outside if code == FOREIGN => self.refuse(cursor, BEGINS_FF),
+            Phase::Outside if code == FOREIGN => {
+                self.held = None;
+                self.refuse(cursor, BEGINS_FF)
+            }
             Phase::Outside if code == RESUME => self.resume(cursor),
             Phase::Outside | Phase::Resumed => self.begin_block(cursor, code),
             Phase::Block => {

@@ -125,7 +125,7 @@ WEATHER = (
 
 def interrupted(number, at):
     """A long datagram broken off by an alarm, and resumed: the three frames. Both have numbers of their own."""
-    batch = datagram(number, 9, WEATHER[(number - 901) // 2])
+    batch = datagram(number, 9, WEATHER[(number - 901) // 2 % len(WEATHER)])
     return broken_off(batch, at, datagram(number + 1, 911, b"SNOW %d" % (number + 1)))
 
 
@@ -149,6 +149,32 @@ def season():
     yield frame(echo_reply(89))[:-4]             # the capture ends inside a frame
 
 
+# ---- a restart, while a packet is suspended: echo replies 92 and 93, datagrams 931 to 936
+
+
+def plain(packet):
+    """A frame of plain PPP (RFC 1662, section 4), with every control octet escaped, and without the flag before it."""
+    register = 0xFFFF
+    for octet in b"\xff\x03" + packet:
+        register ^= octet
+        for _ in range(8):
+            register = register >> 1 ^ (0x8408 if register & 1 else 0)
+    octets = b"\xff\x03" + packet + struct.pack("<H", register ^ 0xFFFF)
+    return b"".join(bytes([0x7D, o ^ 0x20]) if o < 0x20 or o in b"\x7d\x7e" else bytes([o]) for o in octets) + FLAG
+
+
+def restart():
+    yield frame(echo_reply(92))
+    cut, alarm, rest = interrupted(931, 40)                # broken off, the alarm, and then the station restarts
+    yield cut + alarm
+    yield plain(bytes.fromhex("c0210101000801040800"))     # a Configure-Request: an MRU of 2,048. (The draft's option for COBS has no number.)
+    yield plain(bytes.fromhex("c0210207000801040800"))     # a Configure-Ack
+    cut, alarm, rest = interrupted(933, 33)                # broken off, and its beginning never arrives
+    yield alarm + rest
+    yield from interrupted(935, 40)
+    yield frame(echo_reply(93))
+
+
 # ---- for the sender: a file of packets (docs/SEND.md), and the line that the model makes of the same calls; with 16 bits and with 32;
 # and a day's readings in one packet, longer than 2,048 octets, broken off by the alarm, on a link that has agreed on 4,000
 
@@ -170,6 +196,7 @@ CALLS = load(b"l", BATCH) + calls(40) + load(b"h", ALARM) + calls(9000) + load(b
 write("marked", bytes.fromhex(MARKED))
 write("quiet-link", QUIET)
 write("season-later", b"".join(season()))
+write("restart", b"".join(restart()))
 write("alarm", sent(CALLS))
 put("alarm.records", b"\x03" + RECORDS)
 put("alarm-32.records", b"\x03W\x20" + RECORDS)

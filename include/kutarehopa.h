@@ -69,7 +69,7 @@ enum kuta_refusals {
     KUTA_BAD_STATE = 3,       /* the width is neither 16 nor 32, or a state's limit out of range; the octets are no state (CLIBRARY.md), or one
                                  out of bounds (READING.md) */
     KUTA_LANE_LOADED = 4,     /* load: the lane's last packet is not sent yet */
-    KUTA_PLAIN_FRAME = 5,     /* it begins FF: plain PPP, a restart of the link */
+    KUTA_PLAIN_FRAME = 5,     /* it begins FF: plain PPP, a restart of the link; nothing is held after it */
     KUTA_NOT_AGREED = 6,      /* a code that the settings do not allow */
     KUTA_NO_CODE = 7,         /* an octet that is no code here */
     KUTA_NOTHING_HELD = 8,    /* it resumes a packet, and nothing is held */

@@ -148,7 +148,7 @@ _REASONS = {
     2: "an area is too short",
     3: "this is no state that the calls make",
     4: "the lane still has a packet to send",
-    5: "the first octet is FF, as in plain PPP",
+    5: "the first octet is FF, as in plain PPP; nothing is held after it",
     6: "there is a code that the settings do not allow",
     7: "there is no code where one must stand",
     8: "the rest of a packet came, and no beginning is held",

@@ -180,6 +180,12 @@ class Receiving(unittest.TestCase):
                 with self.assertRaises(error):
                     take(wrong)
 
+    def test_restart(self):
+        octets = b"\x05\x31\x7e\xff\x03\x7e\xd1\x01\x7e"
+        self.assertEqual(Receiver().feed(octets), [Held(1, False, 2), Refused(5, 5), Refused(8, 8)])
+        other = octets.replace(b"\xff\x03", b"\xd2")
+        self.assertEqual(Receiver().feed(other), [Held(1, False, 2), Refused(7, 4), Refused(13, 7)])
+
     def test_reasons(self):
         for number in range(5, 15):
             self.assertGreater(len(Refused(number, 0).reason), 10)

@@ -139,6 +139,7 @@ static int receiver_in_bounds(const uint8_t *s) {
     const int in_frame = s[23] == 1, held = s[13] == 1;
     if (decoded > most || (held && number_at(s + 14) > most) || left > 207 || zeros > 2) return 0;
     if (refusal != 0 && (refusal < KUTA_PLAIN_FRAME || refusal > KUTA_TOO_LONG)) return 0;
+    if (refusal == KUTA_PLAIN_FRAME && held) return 0;
     if (!in_frame) return decoded == 0 && left == 0 && zeros == 0 && last == 0 && resumed == 0 && refusal == 0;
     if (refusal != 0) return 1;
     return last == 0 ? resumed == 1 : last == 1 || left > 0 || decoded > 0;
@@ -301,6 +302,14 @@ static int is_delivered(const struct memory *m, uint32_t answer) {
     return is_good(state[1], (kuta_mark(answer) ? m->other : m->one) + GUARD, length + fcs_octets(state[1]));
 }
 
+/* What is held after an octet that is no flag: nothing if it begins a frame and is FF, or D1 with preemption on; else what was. */
+static int holds_rightly(const uint8_t *was, const uint8_t *is, uint8_t octet) {
+    const int begins = was[23] == 0;
+    if (octet == FLAG) return 1;
+    if (was[13] == 0 || (begins && (octet == 0xFF || (octet == 0xD1 && (was[4] & KUTA_PRE))))) return is[13] == 0;
+    return memcmp(is + 13, was + 13, 3) == 0;
+}
+
 /* A call that was not refused. */
 static void check_taken(enum call call, const struct memory *m, struct lengths n, kuta_stretch got) {
     const char *const name = call_names[call];
@@ -311,6 +320,7 @@ static void check_taken(enum call call, const struct memory *m, struct lengths n
     check(stands(end_of(call), m->state + GUARD), "the state stays in bounds", name, n);
     if (call == LOAD_LOW) check(has_frame(width, m->one + GUARD, m->line + GUARD, n.line), "the frame is loaded", name, n);
     if (call == LOAD_HIGH) check(has_frame(width, m->other + GUARD, m->line + GUARD, n.line), "the frame is loaded", name, n);
+    if (call == RECEIVE) check(holds_rightly(before.state + GUARD, m->state + GUARD, m->line[GUARD]), "what is held", name, n);
     if (kuta_kind(got.answer) == KUTA_PACKET) check(is_delivered(m, got.answer), "a packet and its FCS", name, n);
     if (kuta_kind(got.answer) == KUTA_IDLE) check(same(m, &before, n), "Idle changes nothing", name, n);
 }

@@ -187,7 +187,7 @@ def reported(line_octets, settings, short=0, left=0, width=16, limit=2048):
         resumed = octets[0] == 0xD1
         keeps = held
         if octets[0] == 0xFF:
-            refusal, octets = 5, []
+            refusal, octets, keeps = 5, [], None
         elif resumed:
             octets = octets[1:]
             keeps = None
@@ -242,7 +242,8 @@ def two_ends():
     line("settings 00, high lane, sent of", b"\0\0", sent(b"\0\0", 0))
     line("loaded twice, sent of", b"\0\0", sent(b"\0\0", 3, 2))
     capture = "0C 31 32 33 7E 0C 31 32 33 34 35 36 37 38 39 6E 90 7E D1 09 34 35 36 37 38 39 6E 90 7E D3 7E"
-    examples = ["FF 03 C0 21 7E", "D2 7E", "D1 01 7E", "05 31 7E D1 7E", "D3 7E", "05 31 31 31 31 7E"]
+    examples = ["FF 03 C0 21 7E", "D2 7E", "D1 01 7E", "05 31 7E D1 7E"]
+    examples += ["05 31 7E FF 03 7E D1 01 7E", "05 31 7E D2 7E D1 01 7E", "D3 7E", "05 31 31 31 31 7E"]
     for octets in map(bytes.fromhex, [capture, "7E 7E", "05 31 7E 05 32 7E", *examples]):
         line("reported of", octets, reported(octets, 3))
     for octets in map(bytes.fromhex, ["E0 7E", "05 31 7E"]):

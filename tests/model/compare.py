@@ -7,9 +7,9 @@ DIR/capture, DIR/count and DIR/exercise read standard input and write standard o
 each must be that of `model capture|count|exercise`, octet for octet, on random inputs made here.
 Exits 0 when nothing differs, 1 at the first difference (input and both outputs are saved) or when a
 run of full size did not see every answer of every call, at 16 bits and at 32, with limits of 2 to 20,
-2,048 and 16,384, what a wrong width and a limit out of range are answered, and every area shown
-inside, to its end and beyond it; 2 when a program is missing. All three programs must end with
-status 0, also after `E`.
+2,048 and 16,384, what a wrong width and a limit out of range are answered, restarts with something
+held, and every area shown inside, to its end and beyond it; 2 when a program is missing. All three
+programs must end with status 0, also after `E`.
 """
 import argparse
 import collections
@@ -410,6 +410,25 @@ def lose_resumed(rng, data):
     return FLAG.join(frames)
 
 
+def restart_frame(rng):
+    """A frame that begins FF, without its flag."""
+    return b"\xff" + rng.choice((b"", b"\x03\xc0\x21", rng.randbytes(rng.randint(1, 9)).replace(FLAG, b"1")))
+
+
+def restart_suspended(rng, data):
+    """Puts one frame that begins FF, or two, before one that begins D1. The one or two frames that stood there stay, come
+    once more behind FF, move behind it, or are lost."""
+    frames = data.split(FLAG)
+    resumed = [i for i, frame in enumerate(frames) if frame[:1] == b"\xd1"]
+    if resumed:
+        end = rng.choice(resumed)
+        begin = max(0, end - rng.choice((1, 1, 2)))
+        some = frames[begin:end]
+        restarts = [restart_frame(rng) for _ in range(rng.choice((1, 1, 1, 2)))]
+        frames[begin:end] = rng.choice((some + restarts, some + restarts + some, restarts + some, restarts))
+    return FLAG.join(frames)
+
+
 def insert_frame(rng, data):
     """A frame that is an edge of its own."""
     some = rng.randbytes(rng.choice((0, 1, 3, 12))).replace(FLAG, b"1")
@@ -456,8 +475,8 @@ def swap_zero_flag(rng, data):
 
 
 DAMAGES = (flip_bits, flip_bits, drop_octets, insert_octets, insert_codes, lose_stretch, lose_flag, lose_flags,
-           insert_flags, repeat_stretch, swap_frames, repeat_frame, lose_resumed, lose_resumed, insert_frame,
-           insert_frame, insert_long, insert_noise, swap_zero_flag)
+           insert_flags, repeat_stretch, swap_frames, repeat_frame, lose_resumed, lose_resumed, restart_suspended,
+           restart_suspended, insert_frame, insert_frame, insert_long, insert_noise, swap_zero_flag)
 
 
 def pieces_of(rng, data):
@@ -493,6 +512,8 @@ def captures(programs, rng, total):
     yield "sound", pool
     yield "sound, cut in a frame", pool[:-rng.randint(2, 300)]
     yield "sound, but of 32 bits", sound_line(programs, rng, total // 40, width=32)
+    urgent = sound_line(programs, rng, total // 20, 1)
+    yield "restarts", b"".join(restart_suspended(rng, piece) for piece in pieces_of(rng, urgent))
     yield "codes", from_set(rng, CODES + FLAG + b"\x31\x05\x06", total // 20)
     yield "noise", rng.randbytes(total // 20)
     yield "noise, few flags", rng.randbytes(total // 40).replace(FLAG, b"\x00")
@@ -504,6 +525,11 @@ def captures(programs, rng, total):
         line = line[:-rng.randint(1, 50)] if rng.random() < 0.3 else line
         left -= len(line)
         yield f"damaged, {left} to go", line
+
+
+# Lines of a capture that tell of a restart with something held: nothing is reported in between.
+RESTART_LINES = {"held, then refused-5": rb"(?m)^H .*\nR 5$",
+                 "held, then refused-5, then refused-8": rb"(?m)^H .*\nR 5\nR 8$"}
 
 
 class Seen:
@@ -526,6 +552,8 @@ def compare_captures(programs, rng, total, seen):
             reports += int(count)
         if reports != lines.count(b"\n"):
             sys.exit(f"capture and count of the model do not agree on {name}")
+        for kind, pattern in RESTART_LINES.items():
+            seen.reports[kind] += len(re.findall(pattern, lines))
         seen.octets += len(data)
         seen.captures += 1
 
@@ -659,11 +687,21 @@ def receiver_state(rng, agreed):
     left = rng.choice((0, 0, 0, 0, 1, 1, 2, 206, 207, rng.randint(0, 207)))
     zeros, last, resumed = rng.randrange(3), rng.randrange(3), rng.randrange(2)
     refusal = rng.choice((0, 0, 0, 0, rng.randint(5, 10)))
+    if refusal == 5:
+        held = 0
     if refusal == 0 and last == 0:
         resumed = 1
     if refusal == 0 and last == 2 and left == 0 and decoded == 0:
         decoded = 1
     return [settings(rng), turn, decoded, held, left, zeros, last, 1, resumed, refusal, *agreed]
+
+
+def restarted_state(rng, agreed):
+    """A receiver that has 5 remembered: in bounds with nothing held, else out of bounds by that alone."""
+    most = agreed.most
+    held = rng.choice((0, 1, 2, most + 1, rng.randint(1, most + 1)))
+    return [settings(rng), rng.randrange(2), rng.choice((0, 0, most, rng.randint(0, most))), held, rng.choice((0, 0, 207)),
+            rng.randrange(3), rng.randrange(3), 1, rng.randrange(2), 5, *agreed]
 
 
 def just_beyond(rng, agreed):
@@ -804,6 +842,11 @@ def words(agreed):
     return "wrong width" if agreed.limit in LIMITS else f"wrong width, {limit_words(agreed.limit)}"
 
 
+# Words for calls about a restart, and the answers: a state handed in, the flag of an FF frame, that of a D1 frame.
+REMEMBERED, LET_GO, AFTER_THAT = "5 remembered with something held", "FF with something held", "D1 after that FF"
+RESTARTED = {REMEMBERED: "R 3", LET_GO: "R 5", AFTER_THAT: "R 8"}
+
+
 class Script:
     """A script and what each of its commands is, so that its output can be told apart. Of both ends it knows width and
     limit, and of the areas how much is lent, so that an answer can be counted by these."""
@@ -867,10 +910,10 @@ class Script:
         for area in range(len(WHOLE_AREAS)):
             self.show(area, 0, 65535)
 
-    def receive(self, data):
+    def receive(self, data, about=None):
         """Always followed by both states, so that its lines end at an `S`."""
         data = data[:20] if self.refused("receiver", (2, 3)) else data
-        self.add(receive(data), "receiver", len(data), self.at("receiver", (2, 3)))
+        self.add(receive(data), "receiver", len(data), about or self.at("receiver", (2, 3)))
         self.states()
 
 
@@ -931,6 +974,16 @@ def add_receiver_state(rng, script, agreed):
         show_some(rng, script, 2 + rng.randrange(2), state[2])
 
 
+def add_restarted_state(rng, script, agreed):
+    """5 remembered in a state handed in, with something held or nothing."""
+    agreed = other_agreed(rng, agreed)
+    state = restarted_state(rng, agreed)
+    script.hand("receiver", state)
+    held = state[3] > 0 and not script.refused("receiver", (2, 3))
+    script.receive(rng.choice((FLAG, b"\xff", b"\xd1", b"1")), f"{words(agreed)}, {REMEMBERED}" if held else None)
+    script.receive(FLAG + line_octets(rng, agreed))
+
+
 def add_decoded_frame(rng, script, agreed):
     """A state handed in with a whole frame, good or nearly, decoded in one of the areas; seldom a frame of the other
     width, or one that is longer than the limit allows."""
@@ -952,17 +1005,27 @@ def add_decoded_frame(rng, script, agreed):
 
 
 def add_held_frame(rng, script, agreed):
-    """A state handed in with the beginning of a good frame held; the rest arrives after D1."""
+    """A state handed in with the beginning of a good frame held; the rest arrives after D1. Half the time a restart comes
+    before it, and then the beginning once more."""
     whole = zero_free(rng, min(agreed.limit, rng.choice((2, 9, 100))))
     whole += fcs(whole, agreed.width)
     if 0 in whole:
         return
     cut, turn = rng.randint(0, len(whole)), rng.randrange(2)
     script.add(fill(3 - turn, 0, whole[:cut]))
-    script.hand("receiver", [rng.choice((2, 3, 3, 1)), turn, 0, cut + 1, 0, 0, 0, 0, 0, 0, *agreed])
-    rest = whole[cut:]
-    script.receive(b"\xd1" + bytes((len(rest) + 1,)).replace(FLAG, b"\0") + rest.replace(FLAG, b"\0") + FLAG)
-    show_some(rng, script, 3 - turn, cut)
+    bits = rng.choice((2, 3, 3, 1))
+    script.hand("receiver", [bits, turn, 0, cut + 1, 0, 0, 0, 0, 0, 0, *agreed])
+    rest = b"\xd1" + encoded(whole[cut:]) + FLAG
+    if rng.random() < 0.5:
+        if script.refused("receiver", (2, 3)):
+            script.lend(agreed.areas)
+        script.receive(restart_frame(rng))
+        script.receive(FLAG, f"{words(agreed)}, {LET_GO}")
+        script.receive(rest[:-1])
+        script.receive(FLAG, f"{words(agreed)}, {AFTER_THAT}" if bits & 2 else None)
+        script.receive(encoded(whole)[:1 + cut] + FLAG)
+    script.receive(rest)
+    show_some(rng, script, 2 + rng.randrange(2), cut)
 
 
 def add_whole_frame(rng, script, agreed):
@@ -1055,9 +1118,11 @@ def any_script(rng, pools):
         kind = rng.random()
         if kind < 0.31:
             add_sender_state(rng, script, agreed)
-        elif kind < 0.63:
+        elif kind < 0.60:
             add_receiver_state(rng, script, agreed)
-        elif kind < 0.71:
+        elif kind < 0.63:
+            add_restarted_state(rng, script, agreed)
+        elif kind < 0.70:
             add_decoded_frame(rng, script, agreed)
         elif kind < 0.77:
             add_held_frame(rng, script, agreed)
@@ -1100,6 +1165,21 @@ def longest_operands(rng):
         *(fill(area, 65535, rng.randbytes(65535)) for area in range(6)), load_low(rng.randbytes(65535)), SHOW_STATES,
         load_low(rng.randbytes(2048)), next_octets(65535), open_receiver(3), receive(rng.randbytes(65535)), SHOW_STATES,
         *(show(area, at, 65535) for area in range(6) for at in (0, 65535))))
+
+
+def held_or_nothing():
+    """Receivers with nothing held, no octet or some: each of the 256 refusals remembered, and each octet as the first of a
+    frame; states are shown after it, after FF and after the flag."""
+    parts = []
+    for octet in range(256):
+        for held in (0, 1, 4):
+            for mark in (0, 1):
+                parts += [hand_receiver((3, mark, 5, held, 0, 0, 0, 1, mark, octet, 16, 2048)), receive(b"\xff"), SHOW_STATES,
+                          receive(FLAG), SHOW_STATES]
+            for bits in range(4):
+                parts += [hand_receiver((bits, bits % 2, 0, held, *[0] * 6, 16, 2048)), receive(bytes((octet,))), SHOW_STATES,
+                          receive(b"\xff"), SHOW_STATES, receive(FLAG), SHOW_STATES, receive(b"\xd1\x01" + FLAG), SHOW_STATES]
+    return b"".join(parts)
 
 
 def every_width():
@@ -1169,6 +1249,7 @@ def fixed_scripts(rng):
         for cut in range(1, len(command) + 1):
             yield f"command {command[:1].decode()}, {cut} octets", SHOW_STATES + command[:cut]
     yield "every area number", every_area_number()
+    yield "something held or nothing", held_or_nothing()
     yield "every width", every_width()
     yield "every limit", every_limit()
     for limit in (0, 1, 2, 3, 2048, 16383, 16384, 16385, 65535):
@@ -1248,7 +1329,7 @@ def compare_scripts(programs, rng, total, seen):
 # What must be seen
 # ------------------------------------------------------------------------------------------------
 
-REPORTS = (["packets", "held", "held-replaced"]
+REPORTS = (["packets", "held", "held-replaced", *RESTART_LINES]
            + [f"refused-{n}" for n in range(5, 15) if n not in (6, 11)])  # 6 and 11 need other settings than 03
 CALLS = {"load": ["D", "R 1", "R 2", "R 3", "R 4"],
          "next octet": ["O", "I", "R 2", "R 3"],
@@ -1270,6 +1351,10 @@ WRONG = ["wrong width", *(f"{width}, {limit}" for width in ("16 bits", "32 bits"
 ANSWERS += [(call, about + short, "R 3") for call in CALLS for about in WRONG for short in ("", ", short area")]
 ANSWERS += [(call, about, "opened" if about in GOOD else "R 23" if about.endswith(WRONG_LIMITS) else "R 3")
             for call in ("open sender", "open receiver") for about in (*GOOD, *WRONG)]
+# Restarts, at every width and limit of which answers must be seen.
+ANSWERS += [("receiver", f"{about}, {what}", answer) for what, answer in RESTARTED.items() for about, limit in GOOD.items()
+            if limit != "other limit"]
+KNOWN |= {("receiver", f"{about}, {what}", answer) for what, answer in RESTARTED.items() for about in GOOD}
 ANSWERS += [("show", "", what) for n in range(len(WHOLE_AREAS))
             for what in (f"area {n}", f"area {n} to its end", f"beyond area {n}")] + [("show", "", "no such area")]
 KNOWN |= set(ANSWERS)

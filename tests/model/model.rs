@@ -1,8 +1,8 @@
 //! An independent model of the COBS link of document 01 (settings ZXE and PRE, two lanes, two
-//! receive areas), with the 32-bit check and the agreed limit of a packet of document 02, slips 1
-//! and 11. Written from these documents, the readings of 02 that were agreed on, and the exercise
-//! driver's format alone. "01" and "02" in the comments are the documents, and "step n" is 01's
-//! numbered step. A comment `Reading:` marks a place where the words were weighed.
+//! receive areas), with the 32-bit check, the agreed limit of a packet and the restart of document
+//! 02, slips 1, 11 and 4. Written from these documents, the readings of 02 that were agreed on, and
+//! the exercise driver's format alone. "01" and "02" in the comments are the documents, and "step n"
+//! is 01's numbered step. A comment `Reading:` marks a place where the words were weighed.
 //!
 //!     rustc -C opt-level=3 --edition 2021 -o model model.rs
 //!
@@ -22,6 +22,8 @@ const FLAG: u8 = 0x7E;
 const STAND_IN: u8 = 0x00;
 /// First octet of a resumed frame.
 const RESUME: u8 = 0xD1;
+/// First octet of a frame that a restarted peer sends; the frame itself is refused.
+const RESTART: u8 = 0xFF;
 /// The code sent only to be broken off by the flag that follows it.
 const BREAK_CODE: u8 = 0x02;
 /// Code of a full block: 207 data octets and no zero.
@@ -686,7 +688,7 @@ impl Receiver {
         }
     }
 
-    /// 01's paragraph "In bounds", the receiver's part; width and limit are good.
+    /// 01's paragraph "In bounds", the receiver's part, and what 02 adds; width and limit are good.
     fn in_bounds(&self) -> bool {
         let most = self.agreed.decoded_most();
         self.decoded <= most
@@ -695,12 +697,22 @@ impl Receiver {
             && self.zeros <= 2
             && self
                 .refusal
-                .is_none_or(|number| (refusal::BEGINS_FF..=refusal::TOO_MUCH).contains(&number))
+                .is_none_or(|number| self.remembered_in_bounds(number))
             && (if self.in_frame {
                 self.frame_in_bounds()
             } else {
                 self.fresh_outside()
             })
+    }
+
+    /// Refusals that may be remembered: 5 only with nothing held, since its FF let that go.
+    // Reading: this is asked of 5 alone, and whatever the settings are.
+    fn remembered_in_bounds(&self, number: u8) -> bool {
+        match number {
+            refusal::BEGINS_FF => self.held.is_none(),
+            refusal::NOT_AGREED..=refusal::TOO_MUCH => true,
+            _ => false,
+        }
     }
 
     /// What must be as in a fresh receiver while no frame is begun.
@@ -767,10 +779,17 @@ impl Receiver {
     fn take_first(&mut self, areas: &mut Areas, octet: u8) {
         self.in_frame = true;
         match octet {
-            0xFF => self.refuse(refusal::BEGINS_FF),
+            RESTART => self.take_restart(),
             RESUME => self.take_resume(),
             code => self.take_code(areas, code),
         }
+    }
+
+    /// Step 1: a first FF. What was held before the peer's restart goes at once.
+    // Reading: the areas do not turn, and PRE is not looked at.
+    fn take_restart(&mut self) {
+        self.let_go();
+        self.refuse(refusal::BEGINS_FF);
     }
 
     /// Step 1: a first D1.
@@ -781,9 +800,10 @@ impl Receiver {
         if !self.settings.pre() {
             return self.refuse(refusal::NOT_AGREED);
         }
-        match self.held.take() {
+        match self.held {
             None => self.refuse(refusal::NOTHING_HELD),
             Some(count) => {
+                self.let_go();
                 self.decoded = count;
                 self.work = 1 - self.work;
             }
@@ -844,6 +864,12 @@ impl Receiver {
         self.left = 0;
         self.zeros = 0;
         self.last = LastBlock::None;
+    }
+
+    /// From here on nothing is held: at FF, at an accepted D1, and at the flag of a resumed frame that
+    /// is not held itself.
+    fn let_go(&mut self) {
+        self.held = None;
     }
 
     /// Step 5: the flag gives the report, and all but settings, width, limit, turn and held count
@@ -919,7 +945,7 @@ impl Receiver {
                 self.held = Some(count);
                 self.work = 1 - self.work;
             }
-            Answer::Packet { .. } | Answer::Refused(_) if self.resumed => self.held = None,
+            Answer::Packet { .. } | Answer::Refused(_) if self.resumed => self.let_go(),
             Answer::Packet { .. } | Answer::Refused(_) | Answer::Quiet => {}
         }
     }

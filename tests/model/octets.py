@@ -6,8 +6,8 @@
 A case is 64 octets, two areas, and some calls on them. The octets spell a state, in bounds or not, or none, with a
 width of 16 bits, of 32 or a wrong one, and any limit. Of each call the answer, all 64 octets, both areas and what lies
 around them must be what the model answers and leaves, whose numbers are packed and unpacked here. Prints one line, and
-exits 1 at the first difference, or if a run of full size did not see every answer of every call, at either width, and
-most of them with a limit of 16,384.
+exits 1 at the first difference, or if a run of full size did not see every answer of every call, restarts with something
+held among them, at either width, and most of them with a limit of 16,384.
 """
 import argparse
 import collections
@@ -138,6 +138,7 @@ def receiver_numbers(rng, agreed):
     decoded = within(0, rng.choice((0, 0, 1, 4, 5, 6, 7, most - 11, *range(most - 3, most + 1), rng.randint(0, most))), most)
     left, zeros, last = rng.choice((0, 0, 0, 1, 2, 207, rng.randint(0, 207))), rng.randrange(3), rng.randrange(3)
     refusal = rng.choice((0, 0, 0, rng.randint(5, 10)))
+    held = 0 if refusal == 5 else held
     resumed = 1 if refusal == 0 and last == 0 else rng.randrange(2)
     if refusal == 0 and last == 2 and left == 0:
         decoded = max(decoded, 1)
@@ -300,8 +301,9 @@ class Bench:
         areas = [content(rng, length) for length in lengths]
         numbers = (receiver_numbers if self.receiving else sender_numbers)(rng, agreed)
         first = None
-        if self.receiving and rng.random() < 0.3:
-            numbers, first = (self.frame_decoded if rng.random() < 0.7 else self.frame_held)(areas, agreed)
+        if self.receiving and rng.random() < 0.4:
+            make = rng.choice((self.frame_decoded,) * 5 + (self.frame_held,) * 2 + (self.restarted,) + (self.restarting,) * 2)
+            numbers, first = make(areas, agreed)
         if rng.random() < 0.25:
             numbers = disturbed(rng, self.kind, numbers)
         if wrong:
@@ -341,6 +343,20 @@ class Bench:
         areas[1 - work] = octets[:cut] + areas[1 - work][cut:] if len(areas[1 - work]) >= cut else areas[1 - work]
         numbers = [rng.choice((3, 2, 3, 2, 1)), work, 0, cut + 1, 0, 0, 0, 0, 0, 0, *agreed]
         return numbers, b"\xd1" + encoded(octets[cut:], runs=False) + FLAG
+
+    def restarted(self, _areas, agreed):
+        """5 remembered, something held or nothing."""
+        rng, most = self.rng, agreed.most
+        numbers = [rng.choice((3, 2, 1, 0)), rng.randrange(2), rng.choice((0, 0, most, rng.randint(0, most))),
+                   rng.choice((0, 1, 2, most + 1)), rng.choice((0, 0, 207)), rng.randrange(3), rng.randrange(3), 1,
+                   rng.randrange(2), 5, *agreed]
+        return numbers, rng.choice((FLAG, FLAG, b"\xff", b"\xd1", b"1"))
+
+    def restarting(self, _areas, agreed):
+        """Something held, FF to come."""
+        rng = self.rng
+        numbers = [rng.choice((3, 3, 2, 1, 0)), rng.randrange(2), 0, rng.choice((1, 2, agreed.most + 1)), *[0] * 6, *agreed]
+        return numbers, b"\xff" + rng.choice((b"", b"", FLAG, b"\x03\xc0\x21" + FLAG, rng.randbytes(3)))
 
     def call(self, octets):
         """Makes a call, with these octets if there are any."""
@@ -464,9 +480,22 @@ def answer_of(said):
             "H": lambda: HELD << 24 | numbers[1] << 16 | numbers[0]}[letter]()
 
 
+def of_restart(call):
+    """How an answer is called beside its usual name: where a receiver is out of bounds only since it holds something with 5
+    remembered, and where it lets go what it holds."""
+    if place_of(call) == 0 or not agreed_of(call).good or not spells(ReceiverOctets, call.spelt):
+        return ""
+    _, _, decoded, held, left, zeros, _, in_frame, _, refusal, *_ = ReceiverOctets.unpack(call.spelt)
+    if held and refusal == 5 and in_frame and call.answer == REFUSED << 24 | 3:
+        return "-5-held" * (max(decoded, held - 1) <= agreed_of(call).most and left <= 207 and zeros <= 2)
+    return "-let-go" * (held > 0 and not in_frame and call.operand[:1] == b"\xff" and call.answer in (QUIET, REFUSED << 24 | 5))
+
+
 def label(call, no_state):
     """What an answer is called in the line that is printed."""
     kind, mark, value = call.answer >> 24, call.answer >> 16 & 1, call.answer & 0xFFFF
+    if restart := of_restart(call):
+        return (f"R{value}" if kind == REFUSED else "quiet") + restart
     if kind == REFUSED:
         return f"R{value}" + "-short" * too_short(call) + "-no-state" * no_state
     if call.name == "write_on" and kind == OCTET:
@@ -506,10 +535,11 @@ def shortest(call):
     return min({"load_low": call.lengths[:1], "load_high": call.lengths[1:]}.get(call.name, call.lengths))
 
 
-REPORTS = ["quiet", "P0", "P1", "H0", "H1", "R2", "R2-no-state", "R3", "R3-no-state", *(f"R{n}" for n in range(5, 15))]
+REPORTS = ["quiet", "quiet-let-go", "P0", "P1", "H0", "H1", "R2", "R2-no-state", "R3", "R3-no-state", "R3-5-held",
+           *(f"R{n}" for n in range(5, 15))]
 LOADS = ["done", "R1", "R2", "R2-no-state", "R3", "R3-no-state", "R4"]
 ENDS = ["idle", "R2", "R2-no-state", "R3", "R3-no-state"]
-ANSWERS = {"receive": REPORTS, "read_on": ["nothing", *REPORTS], "load_low": LOADS, "load_high": LOADS,
+ANSWERS = {"receive": REPORTS, "read_on": ["nothing", *REPORTS, "R5-let-go"], "load_low": LOADS, "load_high": LOADS,
            "next": ["octet", *ENDS], "write_on": ["nothing", "flag", "room", *ENDS]}
 # At each width; any other width, and a limit out of range, is refused 3, also where an area is too short for any.
 WANTED = {(name, f"{width} bits"): answers for name, answers in ANSWERS.items() for width in WIDTHS}
@@ -518,7 +548,8 @@ WANTED |= {(name, wrong): ["R3", "R3-no-state", "R3-short", "R3-short-no-state"]
 WANTED |= {(f"{end}_open", about): [answer] for end in ("receiver", "sender") for about, answer in (
     ("16 bits", "done"), ("32 bits", "done"), ("wrong width", "R3"), ("wrong limit", "R23"), ("wrong width and limit", "R23"))}
 # Of these at least some must be with a limit of 16,384.
-LONGEST = {"receive": ["quiet", "P0", "P1", "H0", "R2", "R3", "R14"], "read_on": ["quiet", "P0", "P1", "R2", "R3", "R10"],
+LONGEST = {"receive": ["quiet", "quiet-let-go", "P0", "P1", "H0", "R2", "R3", "R3-5-held", "R14"],
+           "read_on": ["quiet", "P0", "P1", "R2", "R3", "R5-let-go", "R10"],
            "load_low": ["done", "R1", "R2", "R3", "R4"], "load_high": ["done", "R1", "R2", "R3", "R4"],
            "next": ["octet", "idle", "R2", "R3"], "write_on": ["flag", "room", "idle", "R2", "R3"]}
 

@@ -6,7 +6,8 @@
     tests/captures/NAME.octets      a capture
     tests/captures/NAME.lines       what the capture program prints for it
     tests/captures/NAME.counts      what the count program prints for it
-    tests/scripts/NAME.script       commands for the exercise driver; base, width and limit have the tables below
+    tests/scripts/NAME.script       commands for the exercise driver; base, width, limit and restart have the tables
+                                    below
     tests/scripts/NAME.answers      what the driver writes for them
     crates/count/stdin, stdout      the capture stale-fragment, and its counts
 
@@ -130,8 +131,40 @@ def stale_fragment(programs):
         older_begun, urgent, urgent, b"\xd1\x03x" + FLAG,  # held again, longer
         later_rest,                                     # joined to that: 14
         older_begun, b"\xd1" + FLAG, later_rest,        # D1 alone loses what is held: 9, then 8
-        older_begun, b"\xd2" + FLAG, b"\xff" + FLAG, b"\xd3" + FLAG, later_rest,  # refused, what is held stays: 14
+        older_begun, b"\xd2" + FLAG, b"\xd3" + FLAG, later_rest,  # refused, what is held stays: 14
+        older_begun, b"\xd2" + FLAG, b"\xff" + FLAG, b"\xd3" + FLAG, later_rest,  # a restart lets it go: 8
     ))
+
+
+def suspended_line(programs, rng):
+    """The frames of a packet broken off once: its beginning, an urgent packet, the rest."""
+    low, high = packet(rng, rng.choice((8, 40, 210, 400))), packet(rng, rng.choice((2, 4, 20)))
+    frames = frames_of(sent_by_model(programs, open_sender(3) + load_low(low) + next_octets(rng.choice((1, 2, 3, 8)))
+                                     + load_high(high) + next_octets(len(low + high) + 60)))
+    assert len(frames) == 3 and frames[2][:1] == b"\xd1"
+    return frames
+
+
+def restart(programs):
+    """A peer restarts in the middle of a suspended packet."""
+    rng = random.Random(11)
+    parts = []
+    for n in range(40):
+        begun, urgent, rest = suspended_line(programs, rng)
+        again, other, whole = suspended_line(programs, rng)
+        some = rng.randbytes(rng.choice((1, 3, 9))).replace(FLAG, b"1")
+        ff = rng.choice((b"\xff", b"\xff\x03\xc0\x21\x01\x01\x00\x04", b"\xff" + some)) + FLAG
+        parts += (
+            (begun, urgent, ff, rest),                      # straight before the rest: 8
+            (begun, ff, urgent, rest),                      # straight behind the beginning: 8
+            (begun, ff, again, other, whole),               # another packet is suspended after it, and whole
+            (begun, urgent, ff, again, other, rest),        # joined to the other one's beginning: 14, if not both are empty
+            (begun, ff, rest, begun, urgent, rest),         # 8, then the same packet once more, and whole
+            (begun, ff[:-1], rest, rest),                   # its flag is lost: the rest is skipped, and then 8
+            (begun, ff, ff, urgent, ff, rest),              # several: 8
+            (begun, b"\xd2" + FLAG, urgent, rest),          # none, but another refused frame: whole
+        )[n % 8]
+    return b"".join(parts)
 
 
 def edges(programs):
@@ -217,6 +250,7 @@ CAPTURES = {
     "noise-in-frames": noise_in_frames,
     "lost-flags": lost_flags,
     "stale-fragment": stale_fragment,
+    "restart": restart,
     "edges": edges,
     "check-of-zeros": check_of_zeros,
     "every-length": every_length,
@@ -599,8 +633,10 @@ def receivers():
     yield ("resumed, FF after D1 is 7", receiver(held=5) + receive(hx("D1 FF")) + D + receive(FLAG) + D, "R 7")
     yield ("resumed, D1 after D1 is 7", receiver(held=5) + receive(hx("D1 D1 7E")) + D, "R 7")
     yield ("refused, not resumed, leaves what is held",
-           receiver(held=5) + receive(hx("D2 7E")) + D + receive(hx("FF 7E"))
-           + D + receive(hx("01 7E")) + D, "R 7, R 5, R 13")
+           receiver(held=5) + receive(hx("D2 7E")) + D + receive(hx("01 7E")) + D + receive(hx("D1 7E")) + D,
+           "R 7, R 13, R 9")
+    yield ("begun FF, nothing held any more",
+           receiver(held=5) + receive(hx("FF 7E")) + D + receive(hx("D1 7E")) + D, "R 5, R 8")
     yield ("delivered, not resumed, leaves what is held",
            receiver(held=5) + receive(hx("E0 03 47 0F 7E")) + D, "P 0 2 00 00")
     yield ("D1 without PRE, held: 6, and at its flag nothing held", receiver(settings=1, held=5) + receive(hx("D1")) + D
@@ -1063,7 +1099,7 @@ def wide_settings():
         yield (f"settings {settings:02X}", open_receiver(settings, 32)
                + receive(hx("D7 7E D1 01 7E 05 31 7E D2 7E FF 7E 01 7E")) + D,
                [f"R {14 if zxe else 6}", f"R {8 if pre else 6}", "H 1 0" if pre else "R 11", "R 7", "R 5", "R 13",
-                "S 3 0 0 0 0 0 0 0 0 0 32 2048", f"T {settings} {1 if pre else 0} 0 {2 if pre else 0} 0 0 0 0 0 0 32 2048"])
+                "S 3 0 0 0 0 0 0 0 0 0 32 2048", f"T {settings} {1 if pre else 0} 0 0 0 0 0 0 0 0 32 2048"])
 
 
 WIDTH_TABLE = [
@@ -1443,6 +1479,323 @@ LIMIT_TABLE = [
 ]
 
 
+# ------------------------------------------------------------------------------------------------
+# The table of the script restart: document 02, slip 4
+# ------------------------------------------------------------------------------------------------
+
+# 41 42 43 (FCS 2F 9F) is broken off after 41; 44 45 (FCS E8 3B) is urgent.
+BEGUN, REST, URGENT = hx("06 41 7E"), hx("D1 05 42 43 2F 9F 7E"), hx("05 44 45 E8 3B 7E")
+OTHER_BEGUN = hx("06 58 7E")
+RESTART = hx("FF 03 C0 21 7E")
+
+
+def state(numbers, width=16, limit=2048):
+    """The lines of `d`: an untouched sender, and the receiver by the ten numbers before width and limit."""
+    return [FRESH[0], f"T {numbers} {width} {limit}"]
+
+
+def restart_examples():
+    """The table of examples that goes with the slip's readings, row by row; settings 03."""
+    yield "05 31, FF 03, D1 01", open_receiver(3) + receive(hx("05 31 7E FF 03 7E D1 01 7E")), "H 1 0, R 5, R 8"
+    yield "05 31, D2, D1 01", open_receiver(3) + receive(hx("05 31 7E D2 7E D1 01 7E")), "H 1 0, R 7, R 13"
+    yield "05 31, FF", open_receiver(3) + receive(hx("05 31 7E FF")) + D, ["H 1 0", *state("3 1 0 0 0 0 0 1 0 5")]
+    for octet in ("31", "7E"):
+        yield (f"in a frame, refusal 5, 1 octet held: {octet}", receiver(held=1, frame=1, refusal=5) + receive(hx(octet)) + D,
+               ["R 3", *state("3 0 0 2 0 0 0 1 0 5")])
+
+
+def from_its_ff_on():
+    """States straight after the FF, after more of its frame, and after its flag; the areas do not turn."""
+    yield ("a fragment received, in the first area", open_receiver(3) + receive(hx("05 31 7E")) + D + receive(hx("FF")) + D
+           + receive(hx("03")) + D + receive(FLAG) + D + receive(hx("D1")) + D + receive(FLAG) + D,
+           ["H 1 0", *state("3 1 0 2 0 0 0 0 0 0"), *state("3 1 0 0 0 0 0 1 0 5") * 2, "R 5", *state("3 1 0 0 0 0 0 0 0 0"),
+            *state("3 1 0 0 0 0 0 1 1 8"), "R 8", *state("3 1 0 0 0 0 0 0 0 0")])
+    yield ("a fragment received, in the second area", open_receiver(3) + receive(hx("05 31 7E 05 32 33 7E")) + D
+           + receive(hx("FF")) + D + receive(hx("03")) + D + receive(FLAG) + D + receive(hx("D1")) + D + receive(FLAG) + D,
+           ["H 1 0", "H 2 1", *state("3 0 0 3 0 0 0 0 0 0"), *state("3 0 0 0 0 0 0 1 0 5") * 2, "R 5",
+            *state("3 0 0 0 0 0 0 0 0 0"), *state("3 0 0 0 0 0 0 1 1 8"), "R 8", *state("3 0 0 0 0 0 0 0 0 0")])
+    for limit, width, _, most, *_ in BOUNDS:
+        agreed = dict(width=width, limit=limit)
+        for work in (0, 1):
+            for held in (None, 0, 1, most):
+                yield (f"limit {limit}, {width} bits, area {work} works, {held} held", lend(lent(width, limit))
+                       + receiver(work=work, held=held, **agreed) + receive(hx("FF")) + D + receive(hx("03 C0 21")) + D
+                       + receive(hx("00 D1 05 31 FF")) + D + receive(FLAG) + D,
+                       [*state(f"3 {work} 0 0 0 0 0 1 0 5", **agreed) * 3, "R 5", *state(f"3 {work} 0 0 0 0 0 0 0 0", **agreed)])
+
+
+def restart_settings():
+    """The settings play no part, PRE neither: what a state handed in holds without it goes too."""
+    yield "areas for 16 bits and 2,048", DEFAULT_LENGTHS, []
+    for settings in (0, 1, 2, 3, 0xFC, 0xFD, 0xFE, 0xFF):
+        for work, held in ((0, None), (0, 0), (0, 5), (1, 2051)):
+            fresh = f"{settings} {work} 0 0 0 0 0 0 0 0"
+            yield (f"settings {settings:02X}, area {work} works, {held} held", receiver(settings=settings, work=work, held=held)
+                   + receive(hx("FF")) + D + receive(hx("03 7E")) + D + receive(hx("D1 01 7E")) + D,
+                   [*state(f"{settings} {work} 0 0 0 0 0 1 0 5"), "R 5", *state(fresh), "R 8" if settings & 2 else "R 6",
+                    *state(fresh)])
+
+
+def ff_elsewhere():
+    """Where FF does not begin the frame it lets nothing go."""
+    stays, gone = state("3 0 0 6 0 0 0 0 0 0"), state("3 1 0 0 0 0 0 0 0 0")
+    yield ("a later code", receiver(held=5) + receive(hx("01 FF")) + D + receive(FLAG) + D + receive(hx("D1 7E")) + D,
+           [*state("3 0 1 6 0 0 0 1 0 7"), "R 7", *stays, "R 9", *gone])
+    yield ("a code behind data", receiver(held=5) + receive(hx("03 41 42 FF")) + D + receive(FLAG) + D,
+           [*state("3 0 3 6 0 0 0 1 0 7"), "R 7", *stays])
+    yield ("data, in a fragment", receiver(held=5) + receive(hx("05 FF FF")) + D + show(2, 0, 2) + receive(FLAG) + D,
+           [*state("3 0 2 6 2 1 2 1 0 0"), "X FF FF", "H 2 1", *state("3 1 0 3 0 0 0 0 0 0")])
+    yield ("the last data octet", receiver(held=5) + receive(hx("02 FF")) + D + receive(FLAG) + D,
+           [*state("3 0 2 6 0 0 2 1 0 0"), "R 13", *stays])
+    yield ("in the FCS", receiver(held=5) + receive(hx("05 00 00 6A FF 7E")) + D, ["P 0 2 7E 7E", *stays])
+    for data in (hx("FF FF"), hx("FF 03 C0 21")):
+        yield (f"in a packet, {data.hex(' ')}", receiver(held=5) + receive(plain_line(data, 16)) + D, [packet_line(0, data), *stays])
+    yield ("behind D1", receiver(held=5) + receive(hx("D1")) + D + receive(hx("FF")) + D + receive(FLAG) + D,
+           [*state("3 1 5 0 0 0 0 1 1 0"), *state("3 1 5 0 0 0 0 1 1 7"), "R 7", *gone])
+    yield ("behind D1 and a block", receiver(held=5) + receive(hx("D1 01 FF")) + D + receive(FLAG) + D,
+           [*state("3 1 6 0 0 0 0 1 1 7"), "R 7", *gone])
+    yield ("behind D1, as data", receiver(held=5) + receive(hx("D1 03 FF")) + D + show(3, 5, 1) + receive(FLAG) + D,
+           [*state("3 1 6 0 1 1 2 1 1 0"), "X FF", "H 6 0", *state("3 0 0 7 0 0 0 0 0 0")])
+    yield ("behind D1 that is refused 8", open_receiver(3) + receive(hx("D1 FF")) + D + receive(FLAG) + D,
+           [*state("3 0 0 0 0 0 0 1 1 8"), "R 8", *state("3 0 0 0 0 0 0 0 0 0")])
+    yield ("behind D1 that is refused 6", receiver(settings=1, held=5) + receive(hx("D1 FF")) + D + receive(FLAG) + D,
+           [*state("1 0 0 6 0 0 0 1 1 6"), "R 6", *state("1 0 0 0 0 0 0 0 0 0")])
+    yield ("behind a code refused 7", receiver(held=5) + receive(hx("D2 FF")) + D + receive(FLAG) + D,
+           [*state("3 0 0 6 0 0 0 1 0 7"), "R 7", *stays])
+    yield ("handed in: behind D1, with something held", receiver(decoded=3, held=5, frame=1, resumed=1) + receive(hx("FF")) + D
+           + receive(FLAG) + D, [*state("3 0 3 6 0 0 0 1 1 7"), "R 7", *state("3 0 0 0 0 0 0 0 0 0")])
+    yield ("handed in: between blocks", receiver(decoded=3, held=5, **IN_OTHER) + receive(hx("FF")) + D + receive(FLAG) + D,
+           [*state("3 0 3 6 0 0 0 1 0 7"), "R 7", *stays])
+    yield ("handed in: in a block", receiver(decoded=3, held=5, left=2, zeros=1, **IN_OTHER) + receive(hx("FF")) + D
+           + receive(FLAG) + D, [*state("3 0 4 6 1 1 2 1 0 0"), "H 4 1", *state("3 1 0 5 0 0 0 0 0 0")])
+    yield ("behind flags alone it begins a frame", receiver(held=5) + receive(hx("7E 7E")) + D + receive(hx("FF")) + D
+           + receive(hx("7E 7E FF 7E")) + D,
+           [*stays, *state("3 0 0 0 0 0 0 1 0 5"), "R 5", "R 5", *state("3 0 0 0 0 0 0 0 0 0")])
+
+
+def after_first(octet, settings):
+    """The ten numbers after a frame's first octet, where 3 octets were held and the first area worked."""
+    code, zxe, pre = octet or 0x7E, settings & 1, settings & 2
+    if octet == 0x7E:
+        return f"{settings} 0 0 4 0 0 0 0 0 0"
+    if code == 0xFF:
+        return f"{settings} 0 0 0 0 0 0 1 0 5"
+    if code == 0xD1:
+        return f"{settings} 1 3 0 0 0 0 1 1 0" if pre else f"{settings} 0 0 4 0 0 0 1 1 6"
+    if code == 0xD2 or code > 0xD2 and not zxe:
+        return f"{settings} 0 0 4 0 0 0 1 0 {7 if code == 0xD2 else 6}"
+    if code in (0x01, 0xE0) or 0xD3 <= code <= 0xDF:
+        return f"{settings} 0 {1 if code == 0x01 else 2 if code == 0xE0 else code - 0xD0} 4 0 0 2 1 0 0"
+    if code == 0xD0:
+        return f"{settings} 0 0 4 207 0 1 1 0 0"
+    return f"{settings} 0 0 4 " + (f"{code - 1} 1" if code < 0xD0 else f"{code - 0xE0} 2") + " 2 1 0 0"
+
+
+def every_first_octet():
+    for settings in (0, 3):
+        yield (f"settings {settings:02X}", b"".join(
+            receiver(settings=settings, held=3) + receive(bytes((octet,))) + D for octet in range(256)),
+            [line for octet in range(256) for line in state(after_first(octet, settings))])
+
+
+def remembered():
+    """5 remembered with something held is out of bounds; 6 to 10 are not."""
+    for refusal in range(5, 11):
+        for held in (None, 0, 3, 2051):
+            for resumed in (0, 1):
+                count = 0 if held is None else held + 1
+                handed = state(f"3 1 7 {count} 0 0 0 1 {resumed} {refusal}")
+                yield (f"{refusal}, {held} held{', resumed' * resumed}", receiver(
+                    work=1, decoded=7, held=held, frame=1, resumed=resumed, refusal=refusal)
+                    + receive(hx("31 00 D1 FF")) + D + receive(FLAG) + D,
+                    ["R 3", "R 3", "R 3", "R 3", *handed, "R 3", *handed] if refusal == 5 and held is not None else
+                    [*handed, f"R {refusal}", *state(f"3 1 0 {0 if resumed else count} 0 0 0 0 0 0")])
+    for limit, width, _, most, *_ in BOUNDS:
+        for refusal in range(5, 11):
+            yield (f"{refusal}, limit {limit}, {width} bits: nothing held, 0 octets, {most}, {most + 1}", lend(lent(width, limit))
+                   + b"".join(receiver(held=held, frame=1, refusal=refusal, width=width, limit=limit) + receive(FLAG)
+                              for held in (None, 0, most, most + 1)),
+                   "R 5, R 3, R 3, R 3" if refusal == 5 else f"R {refusal}, R {refusal}, R {refusal}, R 3")
+    yield "areas for 16 bits and 2,048", DEFAULT_LENGTHS, []
+    full = dict(work=1, decoded=2051, left=207, zeros=2, last=2, frame=1, resumed=1, refusal=5)
+    yield ("5, nothing held, all else as large as can be", receiver(**full) + receive(hx("31")) + D + receive(FLAG) + D,
+           [*state("3 1 2051 0 207 2 2 1 1 5"), "R 5", *state("3 1 0 0 0 0 0 0 0 0")])
+    yield ("5, something held, all else as large as can be", receiver(held=0, **full) + receive(hx("31")) + D + receive(FLAG) + D,
+           ["R 3", *state("3 1 2051 1 207 2 2 1 1 5"), "R 3", *state("3 1 2051 1 207 2 2 1 1 5")])
+    for settings in (0, 1, 2, 0xFC, 0xFF):
+        yield (f"5, settings {settings:02X}: something held, and nothing", receiver(settings=settings, held=3, frame=1, refusal=5)
+               + receive(FLAG) + D + receiver(settings=settings, frame=1, refusal=5) + receive(FLAG) + D,
+               ["R 3", *state(f"{settings} 0 0 4 0 0 0 1 0 5"), "R 5", *state(f"{settings} 0 0 0 0 0 0 0 0 0")])
+    yield ("5, something held, whatever the octet", b"".join(
+        receiver(held=3, frame=1, refusal=5) + receive(bytes((octet,))) for octet in range(256)), ", ".join(["R 3"] * 256))
+    yield ("261 counts as 5", hand_receiver((3, 0, 0, 1, 0, 0, 0, 1, 0, 261, 16, 2048)) + receive(FLAG)
+           + hand_receiver((3, 0, 0, 0, 0, 0, 0, 1, 0, 261, 16, 2048)) + receive(FLAG), "R 3, R 5")
+    yield ("4 and 11 stay out of bounds, nothing held too", b"".join(
+        receiver(held=held, frame=1, refusal=refusal) + receive(FLAG) for refusal in (4, 11) for held in (None, 3)),
+        "R 3, R 3, R 3, R 3")
+
+
+def restart_orders():
+    """3 by width or limit, 2, 3 by the rest; a refused call lets nothing go."""
+    wrong = dict(held=3, frame=1, refusal=5)
+    handed = state("3 0 0 4 0 0 0 1 0 5")
+    for name, lengths in (("first one short", SHORT_FIRST), ("second one short", SHORT_SECOND), ("nothing lent", lend((0,) * 4))):
+        yield (f"{name}: 2 before 3", lengths + receiver(**wrong) + receive(hx("31 FF")) + receive(FLAG) + D,
+               ["R 2", "R 2", "R 2", *handed])
+        yield (f"{name}: 2 where nothing is wrong", receiver(frame=1, refusal=5) + receive(FLAG)
+               + receiver(held=3, frame=1, refusal=7) + receive(FLAG), "R 2, R 2")
+        yield (f"{name}: 3 by width or limit before 2", receiver(width=24, **wrong) + receive(FLAG)
+               + receiver(limit=1, **wrong) + receive(FLAG) + receiver(limit=16385, **wrong) + receive(FLAG), "R 3, R 3, R 3")
+        yield (f"{name}: FF", receiver(held=5) + receive(hx("FF")) + D, ["R 2", *state("3 0 0 6 0 0 0 0 0 0")])
+    yield ("long enough again: FF", DEFAULT_LENGTHS + receive(hx("FF")) + D, state("3 0 0 0 0 0 0 1 0 5"))
+    for words, more in (("208 left", dict(left=208)), ("3 zeros due", dict(zeros=3)), ("2,052 decoded", dict(decoded=2052)),
+                        ("2,052 held", dict(held=2052)), ("out of a frame", dict(frame=0))):
+        yield (f"{words} too: 3, and 2 with an area too short", receiver(**{**wrong, **more}) + receive(FLAG) + SHORT_SECOND
+               + receive(FLAG) + DEFAULT_LENGTHS + receive(FLAG), "R 3, R 2, R 3")
+    yield ("FF, state out of bounds", receiver(decoded=1, held=5) + receive(hx("FF")) + D, ["R 3", *state("3 0 1 6 0 0 0 0 0 0")])
+    yield ("FF, wrong width, limit out of range", receiver(held=5, width=24) + receive(hx("FF")) + D
+           + receiver(held=5, limit=1) + receive(hx("FF")) + D,
+           ["R 3", *state("3 0 0 6 0 0 0 0 0 0", 24), "R 3", *state("3 0 0 6 0 0 0 0 0 0", 16, 1)])
+    for width, frame in ((16, 52), (32, 54)):
+        yield (f"limit 50, {width} bits, 100 held: FF", b"".join(
+            lend((0, 0, length, length)) + receiver(held=100, width=width, limit=50) + receive(hx("FF"))
+            for length in (frame, frame + 1)) + DEFAULT_LENGTHS, "R 2, R 3")
+
+
+def after_a_restart():
+    """From either area: what is held before the restart is forgotten, what is held after it counts."""
+    three = "3 41 42 43"
+    for a, b in ((0, 1), (1, 0)):
+        def line(name, frames, answers, a=a):
+            return f"area {a} works, {name}", receiver(work=a) + receive(frames) + D, answers
+
+        yield line("the rest of the packet comes", BEGUN + RESTART + REST, "H 1 0, R 5, R 8")
+        yield line("D2 in its place", BEGUN + hx("D2 7E") + REST, f"H 1 0, R 7, P {a} {three}")
+        yield line("nothing in its place", BEGUN + REST, f"H 1 0, P {a} {three}")
+        yield line("a new fragment", BEGUN + RESTART + BEGUN, ["H 1 0", "R 5", "H 1 0", *state(f"3 {a} 0 2 0 0 0 0 0 0")])
+        yield line("a new fragment, D2 in its place", BEGUN + hx("D2 7E") + BEGUN,
+                   ["H 1 0", "R 7", "H 1 1", *state(f"3 {a} 0 2 0 0 0 0 0 0")])
+        yield line("a new fragment and its rest", BEGUN + RESTART + BEGUN + REST, f"H 1 0, R 5, H 1 0, P {b} {three}")
+        yield line("8, a new fragment and its rest", BEGUN + RESTART + REST + BEGUN + REST,
+                   f"H 1 0, R 5, R 8, H 1 0, P {b} {three}")
+        yield line("8 three times, a new fragment and its rest", BEGUN + RESTART + REST * 3 + BEGUN + REST,
+                   f"H 1 0, R 5, R 8, R 8, R 8, H 1 0, P {b} {three}")
+        yield line("joined to the new fragment", OTHER_BEGUN + RESTART + BEGUN + REST, f"H 1 0, R 5, H 1 0, P {b} {three}")
+        yield (f"area {a} works, its octets", show(2 + a, 0, 1) + show(2 + b, 0, 6), ["X 58", "X 41 42 43 2F 9F 00"])
+        yield line("not to the old one", BEGUN + RESTART + OTHER_BEGUN + REST, "H 1 0, R 5, H 1 0, R 14")
+        yield line("urgent packets around", BEGUN + URGENT + RESTART + URGENT + REST,
+                   f"H 1 0, P {b} 2 44 45, R 5, P {b} 2 44 45, R 8")
+        yield line("urgent packets around, then a new fragment and its rest",
+                   BEGUN + URGENT + RESTART + URGENT + BEGUN + URGENT + REST,
+                   f"H 1 0, P {b} 2 44 45, R 5, P {b} 2 44 45, H 1 0, P {a} 2 44 45, P {b} {three}")
+        yield line("other refused frames around", BEGUN + hx("D2 7E") + RESTART + hx("D3 7E") + REST, "H 1 0, R 7, R 5, R 13, R 8")
+        yield line("three restarts", BEGUN + RESTART + hx("FF 7E") + hx("FF FF 7E") + REST, "H 1 0, R 5, R 5, R 5, R 8")
+        yield line("a fragment between restarts", BEGUN + RESTART + BEGUN + RESTART + REST, "H 1 0, R 5, H 1 0, R 5, R 8")
+        yield line("two restarts, then a fragment and its rest", BEGUN + RESTART + BEGUN + RESTART + BEGUN + REST,
+                   f"H 1 0, R 5, H 1 0, R 5, H 1 0, P {a} {three}")
+        yield line("its flag lost: the rest of the packet is skipped", BEGUN + RESTART[:-1] + REST + REST, "H 1 0, R 5, R 8")
+        yield line("its flag lost: a new fragment is skipped", BEGUN + RESTART[:-1] + BEGUN + REST, "H 1 0, R 5, R 8")
+        yield line("the flag before it lost: it begins nothing", BEGUN[:-1] + hx("FF 7E") + REST, "H 2 0, R 14")
+        yield line("its FF lost", BEGUN + hx("03 C0 21 7E") + REST, f"H 1 0, R 13, P {a} {three}")
+        yield line("fragments of no octets", hx("05 7E") + RESTART + hx("05 7E") + hx("D1 05 41 42 EF 31 7E"),
+                   f"H 0 0, R 5, H 0 0, P {b} 2 41 42")
+        yield line("a fragment of no octets, its rest alone", hx("05 7E") + RESTART + hx("D1 05 41 42 EF 31 7E"), "H 0 0, R 5, R 8")
+        yield line("held twice", BEGUN + hx("D1 05 42 7E") + RESTART + hx("D1 04 43 2F 9F 7E"), "H 1 0, H 2 0, R 5, R 8")
+        yield line("nothing was held any more", BEGUN + REST + RESTART + REST, f"H 1 0, P {a} {three}, R 5, R 8")
+        yield line("nothing was held yet", RESTART + REST + RESTART + BEGUN + REST, f"R 5, R 8, R 5, H 1 0, P {a} {three}")
+
+
+def restart_agreed():
+    """A packet of 2, broken off and resumed, at both widths and several limits; and long fragments."""
+    for limit, width, *_ in BOUNDS:
+        begun, rest = cut_frame(TWO + fcs(TWO, width), 1)
+        fresh = open_receiver(3, width, limit) + lend(lent(width, limit))
+        yield (f"limit {limit}, {width} bits: whole", fresh + receive(begun + rest), "H 1 0, P 0 2 41 42")
+        yield (f"limit {limit}, {width} bits: a restart between", fresh + receive(begun + hx("FF 7E") + rest) + D,
+               ["H 1 0", "R 5", "R 8", *state("3 1 0 0 0 0 0 0 0 0", width, limit)])
+        yield (f"limit {limit}, {width} bits: then whole", receive(begun + rest + begun + hx("FF 7E") + begun + rest),
+               "H 1 0, P 1 2 41 42, H 1 0, R 5, H 1 0, P 0 2 41 42")
+        if limit >= 2048:
+            runs = 136 if limit == 2048 else 1092
+            yield (f"limit {limit}, {width} bits: a long fragment", fresh + receive(hx("DF") * runs + hx("05 31 7E")) + D
+                   + receive(hx("FF")) + D + receive(FLAG) + receive(hx("D1 01 7E")),
+                   [f"H {15 * runs + 1} 0", *state(f"3 1 0 {15 * runs + 2} 0 0 0 0 0 0", width, limit),
+                    *state("3 1 0 0 0 0 0 1 0 5", width, limit), "R 5", "R 8"])
+
+
+def others_stay():
+    """Every other frame that is refused or delivered, and not resumed, leaves what is held; what D1 took was taken before."""
+    yield "areas for 16 bits and 2,048", DEFAULT_LENGTHS, []
+    for number, settings, line in (
+            (6, 2, "D3"), (6, 0, "E0"), (7, 3, "D2"), (7, 3, "01 FF"), (7, 0, "01 D1"), (10, 3, "DF" * 137), (11, 1, "05 31"),
+            (12, 3, "D0" + "31" * 207), (12, 0, "D0" + "31" * 207), (13, 3, "D3"), (13, 0, "01"), (14, 3, "D5")):
+        for work in (0, 1):
+            yield (f"{number}, settings {settings:02X}, {line[:18]}, area {work} works",
+                   receiver(settings=settings, work=work, held=5) + receive(hx(line) + FLAG) + D + receive(hx("D1 7E")) + D,
+                   [f"R {number}", *state(f"{settings} {work} 0 6 0 0 0 0 0 0"),
+                    *(["R 9", *state(f"{settings} {1 - work} 0 0 0 0 0 0 0 0")] if settings & 2 else
+                      ["R 6", *state(f"{settings} {work} 0 0 0 0 0 0 0 0")])])
+    for number, line in ((6, "D3"), (7, "D2"), (7, "01 FF")):
+        decoded = 1 if line == "01 FF" else 0
+        yield (f"{number}, before the flag, {line}", receiver(settings=2, held=5) + receive(hx(line)) + D,
+               state(f"2 0 {decoded} 6 0 0 0 1 0 {number}"))
+    yield ("10, before the flag", receiver(held=5) + receive(hx("DF") * 137) + D, state("3 0 2040 6 0 0 0 1 0 10"))
+    yield "delivered", receiver(held=5) + receive(URGENT) + D, ["P 0 2 44 45", *state("3 0 0 6 0 0 0 0 0 0")]
+    yield "8", open_receiver(3) + receive(hx("D1 01 7E")) + D, ["R 8", *state("3 0 0 0 0 0 0 0 0 0")]
+    yield ("9", receiver(held=5) + receive(hx("D1")) + D + receive(FLAG) + D,
+           [*state("3 1 5 0 0 0 0 1 1 0"), "R 9", *state("3 1 0 0 0 0 0 0 0 0")])
+    for limit, width, _, most, runs, last in BOUNDS:
+        zeros = hx("DF") * runs
+        yield (f"limit {limit}, {width} bits, {most} held", lend(lent(width, limit)) + receiver(held=most, width=width, limit=limit)
+               + receive(hx("D2 7E") + hx("01 7E") + zeros + bytes((last, 0x7E)) + zeros + bytes((last + 1, 0x7E))) + D
+               + receive(hx("D1 7E")), ["R 7", "R 13", "R 14", "R 10", *state(f"3 0 0 {most + 1} 0 0 0 0 0 0", width, limit), "R 9"])
+
+
+def areas_stay():
+    """No octet of an FF frame is written, nor of a resumed frame that then has nothing to go on from."""
+    for limit, width, _, most, *_ in BOUNDS:
+        for work in (0, 1):
+            shown = show(2, 0, 3) + show(2, most - 1, 2) + show(3, 0, 3) + show(3, most - 1, 2)
+            yield (f"limit {limit}, {width} bits, area {work} works", lend(lent(width, limit)) + fill(2, 0, hx("A1 A2 A3"))
+                   + fill(2, most - 1, hx("A8 A9")) + fill(3, 0, hx("B1 B2 B3")) + fill(3, most - 1, hx("B8 B9"))
+                   + receiver(work=work, held=most, width=width, limit=limit) + receive(hx("FF")) + shown
+                   + receive(hx("03 C0 21 02 31 D5 01")) + shown + receive(FLAG) + shown + receive(hx("D1 03 31 32 7E")) + shown,
+                   [line for answer in ([], [], ["R 5"], ["R 8"])
+                    for line in (*answer, "X A1 A2 A3", "X A8 A9", "X B1 B2 B3", "X B8 B9")])
+
+
+def restarted_peer():
+    """Both ends. The sender is opened anew while its low packet is suspended; what it sends after that is whole, or its
+    first fragment is lost."""
+    for width, limit in ((16, 2048), (32, 3), (32, 16384)):
+        (begun, rest), urgent = cut_frame(THREE + fcs(THREE, width), 1), plain_line(hx("44 45"), width)
+        load_both = load_low(THREE) + next_octets(2) + load_high(hx("44 45"))
+        yield (f"sent, limit {limit}, {width} bits", opened(width, limit) + load_both + next_octets(1) + open_sender(3, width, limit)
+               + load_both + next_octets(1 + len(urgent + rest) + 1),
+               ["D", *sent(begun[:2]), "D", "O 7E", "D", *sent(begun[:2]), "D", *sent(FLAG + urgent + rest), "I"])
+        yield (f"received, limit {limit}, {width} bits", receive(begun + RESTART + begun + urgent + rest),
+               "H 1 0, R 5, H 1 0, P 0 2 44 45, P 1 3 41 42 43")
+        yield (f"a fragment lost, limit {limit}, {width} bits", receive(begun + RESTART + urgent + rest),
+               "H 1 0, R 5, P 0 2 44 45, R 8")
+        yield f"a packet whole, limit {limit}, {width} bits", receive(plain_line(THREE, width)), "P 0 3 41 42 43"
+
+
+RESTART_TABLE = [
+    ("slip 4's examples", restart_examples),
+    ("from its FF on", from_its_ff_on),
+    ("settings", restart_settings),
+    ("FF elsewhere", ff_elsewhere),
+    ("every first octet, 3 held", every_first_octet),
+    ("in bounds", remembered),
+    ("order of the call refusals", restart_orders),
+    ("after a restart", after_a_restart),
+    ("widths and limits", restart_agreed),
+    ("what else leaves what is held", others_stay),
+    ("the areas' octets", areas_stay),
+    ("both ends", restarted_peer),
+]
+
+
 # --- Small scripts: commands, and every line that they give. A script ends at `E`, so each such case has its own.
 LONG = 65535
 EXAMPLE = open_sender(3) + load_low(hx("00 00")) + next_octets(6)
@@ -1538,7 +1891,7 @@ def table_script(programs, label, groups, explain):
 
 def write_scripts(programs, folder, explain):
     scripts, wrong = {}, 0
-    for name, groups in (("base", BASE), ("width", WIDTH_TABLE), ("limit", LIMIT_TABLE)):
+    for name, groups in (("base", BASE), ("width", WIDTH_TABLE), ("limit", LIMIT_TABLE), ("restart", RESTART_TABLE)):
         scripts[name], faults = table_script(programs, name, groups, explain)
         wrong += faults
     for name, (commands, asked) in SCRIPTS.items():

@@ -1,4 +1,4 @@
-"""The worked examples of document 01, and examples of slips 1 and 11 of document 02, held against model.rs:
+"""The worked examples of document 01, and examples of slips 1, 11 and 4 of document 02, held against model.rs:
 
     python3 worked.py MODEL
 """
@@ -6,7 +6,7 @@ import subprocess
 import sys
 import zlib
 
-from compare import fcs, lend, lent, open_receiver, open_sender
+from compare import fcs, hand_receiver, lend, lent, open_receiver, open_sender
 
 MODEL = sys.argv[1]
 
@@ -176,6 +176,19 @@ for width, most in ((16, 16387), (32, 16389)):
         3, zeros + bytes((0xD0 + most - 16380,)) + hx("7E") + zeros + bytes((0xD1 + most - 16380,)) + hx("7E"), width, 16384),
         ["R 14", "R 10"])
 check("slip 11: captures keep 2,048", run("capture", hx("DF") * 136 + hx("DC 7E") + hx("DF") * 1092 + hx("D7 7E")), "R 10\nR 10\n")
+
+# Slip 4, a restart lets go what is held
+check("slip 4: 05 31, FF 03, D1 01", received(3, hx("05 31 7E FF 03 7E D1 01 7E")), ["H 1 0", "R 5", "R 8"])
+check("slip 4: 05 31, D2, D1 01", received(3, hx("05 31 7E D2 7E D1 01 7E")), ["H 1 0", "R 7", "R 13"])
+check("slip 4: 05 31, FF", run("exercise", open_receiver(3) + b"r" + octs(hx("05 31 7E FF")) + b"d").splitlines()[::2],
+      ["H 1 0", "T 3 1 0 0 0 0 0 1 0 5 16 2048"])
+for number, held, report in ((5, 2, "R 3"), (5, 1, "R 3"), (5, 0, "R 5"), *((n, 2, f"R {n}") for n in range(6, 11))):
+    check(f"slip 4: in a frame, refusal {number}, held {held - 1 if held else 'none'}", run(
+        "exercise", hand_receiver((3, 0, 0, held, 0, 0, 0, 1, 0, number, 16, 2048)) + b"r" + octs(hx("7E"))), report + "\n")
+check("slip 4: a packet suspended, a restart, its rest", run("capture", hx("06 41 7E FF 03 C0 21 7E D1 05 42 43 2F 9F 7E")),
+      "H 1 0\nR 5\nR 8\n")
+check("slip 4: then once more", run("capture", hx("06 41 7E FF 03 C0 21 7E 06 41 7E D1 05 42 43 2F 9F 7E")),
+      "H 1 0\nR 5\nH 1 0\nP 3 41 42 43\n")
 
 # Length bound: n + 1 + floor(n / 207) octets before the flag
 LENGTHS = (2, 201, 202, 203, 204, 205, 206, 410, 411, 412, 2046, 2047, 2048)

@@ -16,12 +16,12 @@ use Rattle.cobs.specs.declared.Meaning.the-variants.{InTable, NotAgreed, NoCode
 use Rattle.cobs.proofs.Tests.{branch, decide}
 use Rattle.link.specs.Agreed.{Agreed, agreed, leastFrame, mostDecoded, valid}
 use Rattle.link.specs.Answers.{Answer, done, octet, idle, quiet, packet, held, refused}
-use Rattle.link.specs.Receiver.{Fragment, nothingHeld, holds, Receiver, Working, ReceiverEnd, Receive, Ended, withDue, step2BeginBlock, isNoBlock, isD0, inBounds, step4Remember, step4Refuse, step3Write, step3Decode, step3Data, lastBlock, step2ByMeaning, step2Code, step1ResumeHeld, step1D1, step1FirstOctet, steps1To4, heldAfter, step5End, step5Hold, step5WithoutPhantom, step5Flag, atFlag, areaOf, work, putBack, flagged, receive}
+use Rattle.link.specs.Receiver.{Fragment, nothingHeld, holds, Receiver, Working, ReceiverEnd, Receive, Ended, withDue, step2BeginBlock, isNoBlock, isD0, inBounds, step4Remember, step4Refuse, step3Write, step3Decode, step3Data, lastBlock, step2ByMeaning, step2Code, letGo, step1ResumeHeld, step1D1, step1FirstOctet, steps1To4, step5End, step5Hold, step5WithoutPhantom, step5Flag, atFlag, areaOf, work, putBack, flagged, receive}
 use Rattle.link.specs.Runs.{receives, standsFor}
 use Rattle.link.specs.Demands.{heldOctets, Alike, AreasLongEnough, reportAndPacket, AreasAside}
 use Rattle.link.proofs.Write.{length-write, take-write}
 use Rattle.link.proofs.ReceiverCases.{not-valid}
-use Rattle.link.proofs.ReceiverBounds.{Bounds, bounds, Ready, area-long, receive-flag, receive-other, receive-ready}
+use Rattle.link.proofs.ReceiverBounds.{Bounds, bounds, by-end, Ready, area-long, receive-flag, receive-other, receive-ready}
 use Rattle.link.proofs.Follow.{work-back, aside-back}
 
 -- a choice in two places by one test
@@ -35,12 +35,17 @@ earlier n m a b h e = sym (take-take n m b h) ∙ (ap (take n) e ∙ take-take n
 
 -- ---- an octet that is no flag
 
--- From the state s two work areas went to w and v: the states are one, held and turn are as they were, and the decoded octets are the same.
+-- From the state s two work areas went to w and v: the states are one, the turn is as it was, the decoded octets are the same, and so, where they
+-- were, are those held.
 record Stays (s : Receiver) (w v : Working) : Type 0 where
   same : v .state ≡ w .state
   turn : w .state .turn ≡ s .turn
-  same-held : w .state .held ≡ s .held
+  same-held : (a b : List ℕ) → heldOctets (s .held) b ≡ heldOctets (s .held) a → heldOctets (w .state .held) b ≡ heldOctets (w .state .held) a
   decoded : take (w .state .decoded) (v .area) ≡ take (w .state .decoded) (w .area)
+
+-- with what is held as it was
+as-held : (h k : Fragment) → k ≡ h → (a b : List ℕ) → heldOctets h b ≡ heldOctets h a → heldOctets k b ≡ heldOctets k a
+as-held h k e a b q = subst (λ (i : Fragment). heldOctets i b ≡ heldOctets i a) (sym e) q
 
 module _ (g : Agreed) (s : Receiver) (a b : List ℕ) (la : mostDecoded g ≤ length a) (lb : mostDecoded g ≤ length b)
     (eq : take (s .decoded) b ≡ take (s .decoded) a) (deep : s .decoded ≤ mostDecoded g) where
@@ -56,14 +61,14 @@ module _ (g : Agreed) (s : Receiver) (a b : List ℕ) (la : mostDecoded g ≤ le
       record {
         same = refl;
         turn = turn;
-        same-held = same-held;
+        same-held = as-held (s .held) (r .held) same-held;
         decoded = take-write b n xs (omega arith) ∙ (ap (λ (l : List ℕ). l ++ xs) eq₁ ∙ sym (take-write a n xs (omega arith)));
       }
 
   refuse-stays : (r : Receiver) (n : ℕ) → r .turn ≡ s .turn → r .held ≡ s .held → r .decoded ≡ s .decoded
       → Stays s (step4Refuse n (at r a)) (step4Refuse n (at r b))
   refuse-stays r n turn same-held count =
-      record { same = refl; turn = turn; same-held = same-held; decoded = subst (λ (k : ℕ). take k b ≡ take k a) (sym count) eq }
+      record { same = refl; turn = turn; same-held = as-held (s .held) (r .held) same-held; decoded = subst (λ (k : ℕ). take k b ≡ take k a) (sym count) eq }
 
   decode-stays : (r : Receiver) (xs : List ℕ) → r .turn ≡ s .turn → r .held ≡ s .held → r .decoded ≡ s .decoded
       → Stays s (step3Decode g xs (at r a)) (step3Decode g xs (at r b))
@@ -76,7 +81,7 @@ module _ (g : Agreed) (s : Receiver) (a b : List ℕ) (la : mostDecoded g ≤ le
   unfolding step2ByMeaning
   meaning-stays c (InTable n z) =
       branch₂ (Stays s) (eqb n 0) (λ _. decode-stays (step2BeginBlock (lastBlock c) 0 0 s) (replicate z 0) refl refl refl)
-      (λ _. record { same = refl; turn = refl; same-held = refl; decoded = eq })
+      (λ _. record { same = refl; turn = refl; same-held = λ _ _ q. q; decoded = eq })
   meaning-stays c NotAgreed = refuse-stays s 6 refl refl refl
   meaning-stays c NoCode = refuse-stays s 7 refl refl refl
 
@@ -134,7 +139,7 @@ module _ (g : Agreed) (s : Receiver) (a₁ a₂ b₁ b₂ : List ℕ) (alike : A
               decoded = ap (take n) (back f v) ∙ (k .decoded ∙ sym (ap (take n) (back e w)));
               held =
                   ap (heldOctets (w .state .held)) (aside f v)
-                  ∙ (subst (λ (h : Fragment). heldOctets h (areaOf (not (s .turn)) f) ≡ heldOctets h (areaOf (not (s .turn)) e)) (sym (k .same-held)) (alike .held)
+                  ∙ (k .same-held (areaOf (not (s .turn)) e) (areaOf (not (s .turn)) f) (alike .held)
                   ∙ sym (ap (heldOctets (w .state .held)) (aside e w)));
             };
       }
@@ -143,7 +148,7 @@ module _ (g : Agreed) (s : Receiver) (a₁ a₂ b₁ b₂ : List ℕ) (alike : A
   resume-both : (h : Fragment) → s .held ≡ h
       → Both (record { state = step1ResumeHeld h s; area = work e .area }) (record { state = step1ResumeHeld h s; area = work f .area })
   unfolding step1ResumeHeld
-  resume-both nothingHeld q = stays-both _ _ (record { same = refl; turn = refl; same-held = refl; decoded = alike .decoded })
+  resume-both nothingHeld q = stays-both _ _ (record { same = refl; turn = refl; same-held = λ _ _ p. p; decoded = alike .decoded })
   resume-both (holds n) q =
       record {
         same = refl;
@@ -166,12 +171,14 @@ module _ (g : Agreed) (s : Receiver) (a₁ a₂ b₁ b₂ : List ℕ) (alike : A
         let wb = work f .area in
         let eq = alike .decoded in
         let d = b .deep in
-        let none·moved : Stays s (work e) (work f) = record { same = refl; turn = refl; same-held = refl; decoded = eq } in
+        let none·moved : Stays s (work e) (work f) = record { same = refl; turn = refl; same-held = λ _ _ q. q; decoded = eq } in
         let refused·6 : Stays s (record { state = step4Remember 6 true s; area = wa }) (record { state = step4Remember 6 true s; area = wb }) =
-        record { same = refl; turn = refl; same-held = refl; decoded = eq } in
+        record { same = refl; turn = refl; same-held = λ _ _ q. q; decoded = eq } in
+        let refused·5 : Stays s (step4Refuse 5 (record { state = letGo s; area = wa })) (step4Refuse 5 (record { state = letGo s; area = wb })) =
+        record { same = refl; turn = refl; same-held = λ _ _ _. refl; decoded = eq } in
         branch₂ Both (not (eqb (s .refusal) 0)) (λ _. stays-both _ _ none·moved)
         (λ _. branch₂ Both (not (s .framed))
-        (λ _. branch₂ Both (eqb x 0xFF) (λ _. stays-both _ _ (refuse-stays g s wa wb la lb eq d s 5 refl refl refl))
+        (λ _. branch₂ Both (eqb x 0xFF) (λ _. stays-both _ _ refused·5)
         (λ _. branch₂ Both (eqb x 0xD1)
         (λ _.
         branch₂ (λ r q. Both (record { state = r; area = wa }) (record { state = q; area = wb })) (g .pre) (λ _. resume-both (s .held) refl)
@@ -187,12 +194,11 @@ module _ (g : Agreed) (s : Receiver) (a₁ a₂ b₁ b₂ : List ℕ) (alike : A
     says : standsFor (t .report) f ≡ standsFor (t .report) e
     after : Alike (record { state = t .state; first = a₁; second = a₂ }) (record { state = t .state; first = b₁; second = b₂ })
 
-  held-after-alike : heldOctets (heldAfter s) (areaOf (not (s .turn)) f) ≡ heldOctets (heldAfter s) (areaOf (not (s .turn)) e)
-  held-after-alike =
-      branch (λ (h : Fragment). heldOctets h (areaOf (not (s .turn)) f) ≡ heldOctets h (areaOf (not (s .turn)) e)) (s .resumed) (λ _. refl) (λ _. alike .held)
-
   ends-alike : (a : Answer) → standsFor a f ≡ standsFor a e → FlagAlike (step5End a s) (step5End a s)
-  ends-alike a q = record { same = refl; says = q; after = record { state = refl; decoded = refl; held = held-after-alike } }
+  ends-alike a q =
+      by-end (λ (r : Receiver). FlagAlike (record { report = a; state = r }) (record { report = a; state = r })) s
+      (λ _. record { same = refl; says = q; after = record { state = refl; decoded = refl; held = refl } })
+      (λ _. record { same = refl; says = q; after = record { state = refl; decoded = refl; held = alike .held } })
 
   hold-alike : FlagAlike (step5Hold s) (step5Hold s)
   hold-alike = record { same = refl; says = refl; after = record { state = refl; decoded = refl; held = turned (s .turn) (alike .decoded) } }

@@ -1,6 +1,6 @@
 -- What holds of every single call.
 use mathlib.Core.Path.{_≡_, refl, sym, ap, subst, _∙_}
-use mathlib.Core.Bool.{Bool, true, false, cond, not, _||_}
+use mathlib.Core.Bool.{Bool, true, false, cond, not, _&&_, _||_}
 use mathlib.Core.List.{List, [], _∷_, _++_}
 use mathlib.Core.Logic.{_⊎_, inl, inr}
 use Prim.Native.Nat.{ℕ, _+_, _-_, _≤_, _<_}
@@ -18,10 +18,10 @@ use Rattle.cobs.proofs.Exchange.{from-line}
 use Rattle.link.specs.Agreed.{Agreed, agreed, leastFrame, mostDecoded, valid}
 use Rattle.link.specs.Answers.{Answer, done, octet, idle, quiet, packet, held, refused}
 use Rattle.link.specs.Sender.{Lane, low, high, OnLine, noLane, Sender, SenderEnd, closes, Step, emptyLane, laneState, outAnswer, putFrame, load, next, Load}
-use Rattle.link.specs.Receiver.{Fragment, nothingHeld, holds, Receiver, Working, ReceiverEnd, Receive, Ended, isNoBlock, isD0, heldAfter, write, step4Refuse, step3Write, step3Decode, step3Data, step2ByMeaning, step2Code, step1ResumeHeld, step1D1, step1FirstOctet, steps1To4, step5End, step5WithoutPhantom, step5Flag, atFlag, work, putBack, flagged, receive}
+use Rattle.link.specs.Receiver.{Fragment, nothingHeld, holds, Receiver, Working, ReceiverEnd, Receive, Ended, isNoBlock, isD0, write, step4Refuse, step3Write, step3Decode, step3Data, step2ByMeaning, step2Code, step1ResumeHeld, step1D1, step1FirstOctet, steps1To4, step5End, step5WithoutPhantom, step5Flag, atFlag, work, putBack, flagged, receive}
 use Rattle.link.specs.Receiver as receiver
 use Rattle.link.specs.EachCall.{RefusedChangesNothing, IdleChangesNothing, Loads, DoneLoads, SettingsStay, ClosedIsEmpty, TakesIn, BlockOver, Resumes, HeldThen, NotHeldThen, EndsFrame, ReceivesSo, ValidFirst, AreasThenState}
-use Rattle.link.proofs.Tests.{if-so, if-not, not-below, one-short, none-short}
+use Rattle.link.proofs.Tests.{if-so, if-not, true-false, not-below, one-short, none-short}
 use Rattle.link.proofs.Way.{Way, ends, cuts, warns, goes, sender, Turn, cut·due, idles, resumes·low, begins·high, begins·low, high·on, low·on, by-next}
 use Rattle.link.proofs.Agreed.{valid-width, valid-limit}
 use Rattle.link.proofs.Write.{length-write, take-write}
@@ -216,11 +216,11 @@ refused-changes-nothing = record { load = load-refused; next = next-refused; rec
 
 -- ---- the work area taken and put back
 
-same-first : (b : Bool) (first second : List ℕ) → cond b first (cond b second first) ≡ first
+pub same-first : (b : Bool) (first second : List ℕ) → cond b first (cond b second first) ≡ first
 same-first true first second = refl
 same-first false first second = refl
 
-same-second : (b : Bool) (first second : List ℕ) → cond b (cond b second first) second ≡ second
+pub same-second : (b : Bool) (first second : List ℕ) → cond b (cond b second first) second ≡ second
 same-second true first second = refl
 same-second false first second = refl
 
@@ -229,22 +229,27 @@ put-back-same e = rw (same-first (e .state .turn) (e .first) (e .second), same-s
 
 -- ---- an octet is written only after those that are decoded
 
-record Moves (w w′ : Working) : Type 0 where
+-- w before it, w′ after it, which then holds the fragment h
+record Moves (h : Fragment) (w w′ : Working) : Type 0 where
   turn·is : w′ .state .turn ≡ w .state .turn
-  held·is : w′ .state .held ≡ w .state .held
+  held·is : w′ .state .held ≡ h
   count : w .state .decoded ≤ w′ .state .decoded
   same : take (w .state .decoded) (w′ .area) ≡ take (w .state .decoded) (w .area)
   behind : drop (w′ .state .decoded) (w′ .area) ≡ drop (w′ .state .decoded) (w .area)
 
+-- what is held stays
+abbrev Keeps : Working → Working → Type 0
+Keeps w w′ = Moves (w .state .held) w w′
+
 -- nothing is written, and no more is decoded
-stays : (w : Working) (r : Receiver) → r .turn ≡ w .state .turn → r .held ≡ w .state .held → r .decoded ≡ w .state .decoded
-    → Moves w (record { state = r; area = w .area })
+stays : {h : Fragment} (w : Working) (r : Receiver) → r .turn ≡ w .state .turn → r .held ≡ h → r .decoded ≡ w .state .decoded
+    → Moves h w (record { state = r; area = w .area })
 stays w r h k i = record { turn·is = h; held·is = k; count = omega arith; same = refl; behind = refl }
 
-unwritten : (n : ℕ) (w : Working) → Moves w (step4Refuse n w)
+unwritten : (n : ℕ) (w : Working) → Keeps w (step4Refuse n w)
 unwritten n w = stays w _ refl refl refl
 
-writes-on : (xs : List ℕ) (w : Working) → w .state .decoded + length xs ≤ length (w .area) → Moves w (step3Write xs w)
+writes-on : (xs : List ℕ) (w : Working) → w .state .decoded + length xs ≤ length (w .area) → Keeps w (step3Write xs w)
 writes-on xs w fits =
     let n = w .state .decoded in
     let a = w .area in
@@ -257,7 +262,7 @@ writes-on xs w fits =
       behind = drop-at (take n a ++ xs) (drop (n + length xs) a) (n + length xs) (length-append (take n a) xs ∙ ap (λ (k : ℕ). k + length xs) size);
     }
 
-then : (w v u : Working) → Moves w v → Moves v u → Moves w u
+then : (w v u : Working) → Keeps w v → Keeps v u → Keeps w u
 then w v u h k =
     let i = w .state .decoded in
     let j = v .state .decoded in
@@ -273,25 +278,25 @@ then w v u h k =
     }
 
 module _ (g : Agreed) where
-  decodes : (xs : List ℕ) (w : Working) → mostDecoded g ≤ length (w .area) → Moves w (step3Decode g xs w)
+  decodes : (xs : List ℕ) (w : Working) → mostDecoded g ≤ length (w .area) → Keeps w (step3Decode g xs w)
   unfolding step3Decode
   decodes xs w long =
-      branch (Moves w) (ltb (mostDecoded g) (w .state .decoded + length xs)) (λ _. unwritten 10 w)
+      branch (Keeps w) (ltb (mostDecoded g) (w .state .decoded + length xs)) (λ _. unwritten 10 w)
       (λ k. writes-on xs w (omega (arith, ltb-false (mostDecoded g) (w .state .decoded + length xs) k)))
 
   module _ (w : Working) (long : mostDecoded g ≤ length (w .area)) where
     after : (r : Receiver) (u : Working) → r .turn ≡ w .state .turn → r .held ≡ w .state .held → r .decoded ≡ w .state .decoded
-        → Moves (record { state = r; area = w .area }) u → Moves w u
+        → Keeps (record { state = r; area = w .area }) u → Keeps w u
     after r u h k i m = then w (record { state = r; area = w .area }) u (stays w r h k i) m
 
-    data-moves : (x : ℕ) → Moves w (step3Data g w x)
+    data-moves : (x : ℕ) → Keeps w (step3Data g w x)
     unfolding step3Data
     data-moves x =
         let r = w .state in
-        branch (Moves w) (ltb (mostDecoded g) (r .decoded + 1)) (λ _. unwritten 10 w)
+        branch (Keeps w) (ltb (mostDecoded g) (r .decoded + 1)) (λ _. unwritten 10 w)
         (λ k.
         let fits : r .decoded + 1 ≤ length (w .area) = omega (arith, ltb-false (mostDecoded g) (r .decoded + 1) k) in
-        branch (Moves w) (eqb (r .left) 1)
+        branch (Keeps w) (eqb (r .left) 1)
         (λ _.
         let v : Working = record { state = receiver.withDue 0 0 r; area = w .area } in
         let u : Working = step3Write (x ∷ []) v in
@@ -302,31 +307,45 @@ module _ (g : Agreed) where
         after (receiver.withDue (r .left - 1) (r .zeros) r) _ refl refl refl
         (writes-on (x ∷ []) (record { state = receiver.withDue (r .left - 1) (r .zeros) r; area = w .area }) fits)))
 
-    code-moves : (c : ℕ) (m : Meaning) → Moves w (step2ByMeaning g w c m)
+    code-moves : (c : ℕ) (m : Meaning) → Keeps w (step2ByMeaning g w c m)
     unfolding step2ByMeaning
     code-moves c (InTable n z) =
         let r = receiver.step2BeginBlock (receiver.lastBlock c) 0 0 (w .state) in
-        branch (Moves w) (eqb n 0) (λ _. after r _ refl refl refl (decodes (replicate z 0) (record { state = r; area = w .area }) long))
+        branch (Keeps w) (eqb n 0) (λ _. after r _ refl refl refl (decodes (replicate z 0) (record { state = r; area = w .area }) long))
         (λ _. stays w _ refl refl refl)
     code-moves c NotAgreed = unwritten 6 w
     code-moves c NoCode = unwritten 7 w
 
     -- D1 that resumes nothing
-    D1-moves : (g .pre ≡ true → w .state .held ≡ nothingHeld) → Moves w (record { state = step1D1 g (w .state); area = w .area })
+    D1-moves : (g .pre ≡ true → w .state .held ≡ nothingHeld) → Keeps w (record { state = step1D1 g (w .state); area = w .area })
     unfolding step1D1 step1ResumeHeld
     D1-moves none·held =
-        branch (λ (r : Receiver). Moves w (record { state = r; area = w .area })) (g .pre)
-        (λ pre. subst (λ (k : Fragment). Moves w (record { state = step1ResumeHeld k (w .state); area = w .area })) (sym (none·held pre)) (stays w _ refl refl refl))
+        branch (λ (r : Receiver). Keeps w (record { state = r; area = w .area })) (g .pre)
+        (λ pre. subst (λ (k : Fragment). Keeps w (record { state = step1ResumeHeld k (w .state); area = w .area })) (sym (none·held pre)) (stays w _ refl refl refl))
         (λ _. stays w _ refl refl refl)
 
-    octet-moves : (x : ℕ) → (w .state .framed ≡ false → x ≡ 0xD1 → g .pre ≡ true → w .state .held ≡ nothingHeld) → Moves w (steps1To4 g w x)
-    unfolding steps1To4 step1FirstOctet step2Code
-    octet-moves x h =
-        branch (Moves w) (not (eqb (w .state .refusal) 0)) (λ _. stays w (w .state) refl refl refl)
-        (λ _. branch (Moves w) (not (w .state .framed))
-        (λ out. branch (Moves w) (eqb x 0xFF) (λ _. unwritten 5 w)
-        (λ _. branch (Moves w) (eqb x 0xD1) (λ d. D1-moves (h (not-true (w .state .framed) out) (eqb-true x 0xD1 d))) (λ _. code-moves x (meaning (g .zxe) x))))
-        (λ _. branch (Moves w) (ltb 0 (w .state .left)) (λ _. data-moves x) (λ _. code-moves x (meaning (g .zxe) x))))
+    -- in a frame, and at its first octet
+    inside : (x : ℕ) → w .state .framed ≡ true → Keeps w (steps1To4 g w x)
+    unfolding steps1To4 step2Code
+    inside x f =
+        branch (Keeps w) (not (eqb (w .state .refusal) 0)) (λ _. stays w (w .state) refl refl refl)
+        (λ _. branch (Keeps w) (not (w .state .framed)) (λ out. true-false (sym f ∙ not-true (w .state .framed) out))
+        (λ _. branch (Keeps w) (ltb 0 (w .state .left)) (λ _. data-moves x) (λ _. code-moves x (meaning (g .zxe) x))))
+
+    first-moves : (x : ℕ) → (x ≡ 0xD1 → g .pre ≡ true → w .state .held ≡ nothingHeld)
+        → Moves (cond (eqb x 0xFF) nothingHeld (w .state .held)) w (step1FirstOctet g w x)
+    unfolding step1FirstOctet step2Code
+    first-moves x h =
+        decide (eqb x 0xFF) (λ e. rw e (stays w _ refl refl refl))
+        (λ e. rw e (branch (Keeps w) (eqb x 0xD1) (λ d. D1-moves (h (eqb-true x 0xD1 d))) (λ _. code-moves x (meaning (g .zxe) x))))
+
+    octet-moves : (x : ℕ) → heard.Bounds g (w .state) → (w .state .framed ≡ false → x ≡ 0xD1 → g .pre ≡ true → w .state .held ≡ nothingHeld)
+        → Moves (cond (not (w .state .framed) && eqb x 0xFF) nothingHeld (w .state .held)) w (steps1To4 g w x)
+    octet-moves x b h =
+        decide (w .state .framed) (λ f. subst (λ (k : Bool). Moves (cond (not k && eqb x 0xFF) nothingHeld (w .state .held)) w (steps1To4 g w x)) (sym f) (inside x f))
+        (λ f.
+        subst (λ (k : Bool). Moves (cond (not k && eqb x 0xFF) nothingHeld (w .state .held)) w (steps1To4 g w x)) (sym f)
+        (subst (Moves (cond (eqb x 0xFF) nothingHeld (w .state .held)) w) (sym (heard.first-octet g w x b f)) (first-moves x (h f))))
 
 -- ---- whether the frame is a resumed one
 
@@ -424,7 +443,7 @@ module _ (g : Agreed) (w : Working) where
     octet-so x =
         branch (Remembers w) (not (eqb (w .state .refusal) 0)) (λ k. absurd (eqb-false (w .state .refusal) 0 (not-true (eqb (w .state .refusal) 0) k) c))
         (λ _. branch (Remembers w) (not (w .state .framed))
-        (λ _. branch (Remembers w) (eqb x 0xFF) (λ _. refused-so 5 w refl)
+        (λ _. branch (Remembers w) (eqb x 0xFF) (λ _. refused-so 5 (record { state = receiver.letGo (w .state); area = w .area }) refl)
         (λ _. branch (Remembers w) (eqb x 0xD1)
         (λ _. branch (λ (r : Receiver). Remembers w (record { state = r; area = w .area })) (g .pre) (λ _. D1-so (w .state .held))
         (λ _. record { over = λ _. record { left = refl; zeros = refl; last = refl }; settings·is = refl }))
@@ -441,13 +460,14 @@ flag-settings : (g : Agreed) (r : Receiver) (area : List ℕ) → atFlag g r are
 unfolding atFlag step5Flag step5WithoutPhantom
 flag-settings g r area =
     let P : Ended → Type 0 = λ t. t .state .settings ≡ r .settings in
+    let end = heard.by-end (λ (s : Receiver). s .settings ≡ r .settings) r (λ _. refl) (λ _. refl) in
     branch P (r .framed)
-    (λ _. branch P (not (eqb (r .refusal) 0)) (λ _. refl)
-    (λ _. branch P (isNoBlock (r .last)) (λ _. refl)
-    (λ _. branch P (ltb 0 (r .left)) (λ _. branch P (g .pre) (λ _. refl) (λ _. refl))
-    (λ _. branch P (isD0 (r .last)) (λ _. refl)
-    (λ _. branch P (ltb (r .decoded - 1) (leastFrame g)) (λ _. refl)
-    (λ _. branch P (good (g .check) (take (r .decoded - 1) area)) (λ _. refl) (λ _. refl)))))))
+    (λ _. branch P (not (eqb (r .refusal) 0)) (λ _. end)
+    (λ _. branch P (isNoBlock (r .last)) (λ _. end)
+    (λ _. branch P (ltb 0 (r .left)) (λ _. branch P (g .pre) (λ _. refl) (λ _. end))
+    (λ _. branch P (isD0 (r .last)) (λ _. end)
+    (λ _. branch P (ltb (r .decoded - 1) (leastFrame g)) (λ _. end)
+    (λ _. branch P (good (g .check) (take (r .decoded - 1) area)) (λ _. end) (λ _. end)))))))
     (λ _. refl)
 
 receive-settings : (e : ReceiverEnd) (x : ℕ) → receive e x .after .state .settings ≡ e .state .settings
@@ -465,8 +485,9 @@ settings-stay =
     record { openedSender = λ t. refl; openedReceiver = λ t. refl; load = load-settings; next = next-settings; receive = receive-settings }
 
 -- the work area put back
-put-back-writes : (e : ReceiverEnd) (w : Working) → Moves (work e) w → TakesIn e (putBack e w)
-put-back-writes e w m =
+put-back-writes : (x : ℕ) (e : ReceiverEnd) (w : Working) → Moves (cond (not (e .state .framed) && eqb (fromLine x) 0xFF) nothingHeld (e .state .held)) (work e) w
+    → TakesIn x e (putBack e w)
+put-back-writes x e w m =
     let b = e .state .turn in
     record {
       turn = m .turn·is;
@@ -483,29 +504,17 @@ module _ (g : Agreed) (e : ReceiverEnd) where
   abbrev Ends : Ended → Type 0
   Ends t = HeldThen (e .state) (flagged e t) ⊎ NotHeldThen (e .state) (flagged e t)
 
+  ends-so : (a : Answer) → ((n : ℕ) (replaced : Bool) → a ≡ held n replaced → ⊥) → (a ≡ quiet → ⊥) → Ends (step5End a (e .state))
+  ends-so a h q =
+      heard.by-end (λ (s : Receiver). Ends (record { report = a; state = s })) (e .state)
+      (λ k. inr (record { fragment = nothingHeld; state = refl; resumed = λ _. refl; other = λ i. true-false (sym k ∙ i); noHeld = h; noQuiet = q }))
+      (λ k. inr (record { fragment = e .state .held; state = refl; resumed = λ i. true-false (sym i ∙ k); other = λ _. refl; noHeld = h; noQuiet = q }))
+
   ends-refused : (n : ℕ) → Ends (step5End (refused n) (e .state))
-  ends-refused n =
-      inr
-      (record {
-        fragment = heldAfter (e .state);
-        state = refl;
-        resumed = λ k. if-so _ _ _ k;
-        other = λ k. if-not _ _ _ k;
-        noHeld = λ m b q. let z : _≡_ {A = ℕ} 0 1 = cc in omega arith;
-        noQuiet = λ q. let z : _≡_ {A = ℕ} 0 1 = cc in omega arith;
-      })
+  ends-refused n = ends-so (refused n) (λ m b q. let z : _≡_ {A = ℕ} 0 1 = cc in omega arith) (λ q. let z : _≡_ {A = ℕ} 0 1 = cc in omega arith)
 
   ends-packet : (b : Bool) (n : ℕ) → Ends (step5End (packet b n) (e .state))
-  ends-packet b n =
-      inr
-      (record {
-        fragment = heldAfter (e .state);
-        state = refl;
-        resumed = λ k. if-so _ _ _ k;
-        other = λ k. if-not _ _ _ k;
-        noHeld = λ m c q. let z : _≡_ {A = ℕ} 0 1 = cc in omega arith;
-        noQuiet = λ q. let z : _≡_ {A = ℕ} 0 1 = cc in omega arith;
-      })
+  ends-packet b n = ends-so (packet b n) (λ m c q. let z : _≡_ {A = ℕ} 0 1 = cc in omega arith) (λ q. let z : _≡_ {A = ℕ} 0 1 = cc in omega arith)
 
   whole-reports : (area : List ℕ) (n : ℕ) → Ends (step5WithoutPhantom g (e .state) area n)
   unfolding step5WithoutPhantom
@@ -558,9 +567,9 @@ module _ (g : Agreed) (e : ReceiverEnd) where
         })
 
     octet-writes : (x : ℕ) → (x ≡ flag → ⊥) → (e .state .framed ≡ false → fromLine x ≡ 0xD1 → g .pre ≡ true → e .state .held ≡ nothingHeld)
-        → TakesIn e (receive e x .after)
+        → TakesIn x e (receive e x .after)
     octet-writes x f h =
-        rw (heard.receive-other g e z x f) (put-back-writes e _ (octet-moves g (work e) (heard.fit-work g e z .long) (fromLine x) h))
+        rw (heard.receive-other g e z x f) (put-back-writes x e _ (octet-moves g (work e) (heard.fit-work g e z .long) (fromLine x) (z .bounds) h))
 
     octet-remembers : e .state .refusal ≡ 0 → (x : ℕ) → (x ≡ flag → ⊥) → (receive e x .after .state .refusal ≡ 0 → ⊥) → BlockOver (receive e x .after .state)
     octet-remembers c x f = rw (heard.receive-other g e z x f) (octet-so g (work e) c (fromLine x) .over)

@@ -20,11 +20,11 @@ use Rattle.cobs.proofs.Chosen.{Stands}
 use Rattle.cobs.proofs.Frame.{zeros-from}
 use Rattle.link.specs.Agreed.{Agreed, leastPacket, leastFrame, mostDecoded}
 use Rattle.link.specs.Answers.{held, packet, refused}
-use Rattle.link.specs.Receiver.{Fragment, holds, LastBlock, noBlock, blockD0, otherBlock, Receiver, Working, ReceiverEnd, withDue, step2BeginBlock, isNoBlock, isD0, write, step3Write, step3Decode, step3Data, lastBlock, step2ByMeaning, step2Code, step1ResumeHeld, step1D1, step1FirstOctet, steps1To4, isHeld, heldAfter, step5End, step5Hold, step5WithoutPhantom, step5Flag, atFlag, areaOf, work, putBack, flagged, receive}
+use Rattle.link.specs.Receiver.{Fragment, nothingHeld, holds, LastBlock, noBlock, blockD0, otherBlock, Receiver, Working, ReceiverEnd, withDue, step2BeginBlock, isNoBlock, isD0, write, step3Write, step3Decode, step3Data, lastBlock, step2ByMeaning, step2Code, step1ResumeHeld, step1D1, step1FirstOctet, steps1To4, isHeld, step5End, step5Hold, step5WithoutPhantom, step5Flag, atFlag, areaOf, work, putBack, flagged, receive}
 use Rattle.link.specs.Runs.{packetIn}
 use Rattle.link.proofs.Tests.{if-so, if-not, true-false}
 use Rattle.link.proofs.Write.{length-write, take-write}
-use Rattle.link.proofs.ReceiverBounds.{Bounds, Fit, Ready, receive-flag, steps-data}
+use Rattle.link.proofs.ReceiverBounds.{Bounds, by-end, Fit, Ready, receive-flag, steps-data}
 
 -- Before any block, or after D0, some of D is left behind what is due of the block.
 abbrev pub Ahead : LastBlock → ℕ → ℕ → Type 0
@@ -338,12 +338,16 @@ module _ (g : Agreed) (e : ReceiverEnd) (z : Ready g e) where
     reports = rw delivers (ap some delivered)
 
     -- what was held stays so, unless the frame was a resumed one
-    pub delivers-held : receive e flag .after .state .held ≡ heldAfter r
-    delivers-held = rw delivers
+    pub delivers-held : receive e flag .after .state .held ≡ cond (r .resumed) nothingHeld (r .held)
+    delivers-held =
+        rw delivers
+        (by-end (λ (s : Receiver). s .held ≡ cond (r .resumed) nothingHeld (r .held)) r (λ k. sym (if-so _ _ _ k)) (λ k. sym (if-not _ _ _ k)))
 
     pub delivers-holding : (d : List ℕ) (pos : ℕ) → Holding d pos e → Holding d pos (receive e flag .after)
     delivers-holding d pos h =
-        rw delivers (record { plain = refl; held·is = if-not _ _ _ (h .plain) ∙ h .held·is; same = h .same })
+        rw delivers
+        (by-end (λ (s : Receiver). Holding d pos (record { state = s; first = e .first; second = e .second })) r (λ k. true-false (sym k ∙ h .plain))
+        (λ _. record { plain = refl; held·is = h .held·is; same = h .same }))
 
   -- a flag inside a block leaves the fragment held
   module _ (d : List ℕ) (pos n y : ℕ) (fo : Follows d pos n y (work e)) (more : 0 < n) (pre : g .pre ≡ true) where

@@ -25,5 +25,6 @@ pub mod InBounds
 pub mod EachCall
 pub mod WriteOn
 pub mod AreasAside
+pub mod Restart
 pub mod Marked
 pub mod Examples

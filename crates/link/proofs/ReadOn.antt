@@ -19,7 +19,7 @@ use Rattle.link.proofs.Area.{stored}
 use Rattle.link.proofs.ReceiverBounds.{Ready, bounds, in-bounds, steps-data, receive-other, area-long, receive-ready}
 use Rattle.link.proofs.ReceiverCases.{inner-octet, not-valid, too-short, out-of-bounds, skipped}
 
-receiver-ready : (g : Agreed) (e : ReceiverEnd) → Ready g e → ReceiverReady e
+pub receiver-ready : (g : Agreed) (e : ReceiverEnd) → Ready g e → ReceiverReady e
 receiver-ready g e z =
     record {
       valid = rw (z .agrees) (z .valid);

@@ -16,7 +16,7 @@ use Rattle.cobs.proofs.Tests.{branch, decide, and-left, and-right}
 use Rattle.cobs.proofs.Table.{read-row, numbers}
 use Rattle.link.specs.Agreed.{Settings, Agreed, agreed, valid, leastFrame, mostDecoded}
 use Rattle.link.specs.Answers.{Answer, done, octet, idle, quiet, packet, held, refused}
-use Rattle.link.specs.Receiver.{Fragment, nothingHeld, holds, LastBlock, noBlock, blockD0, otherBlock, Receiver, Working, ReceiverEnd, Receive, Ended, outOfFrame, withDue, step2BeginBlock, isNoBlock, isD0, heldOk, freshOk, lastBlockOk, inBounds, step4Remember, step4Refuse, step3Write, step3Decode, step3Data, lastBlock, step2ByMeaning, step2Code, step1ResumeHeld, step1D1, step1FirstOctet, steps1To4, heldAfter, step5End, step5Hold, step5WithoutPhantom, step5Flag, atFlag, areaOf, work, putBack, flagged, receive}
+use Rattle.link.specs.Receiver.{Fragment, nothingHeld, holds, LastBlock, noBlock, blockD0, otherBlock, Receiver, Working, ReceiverEnd, Receive, Ended, outOfFrame, withDue, step2BeginBlock, isNoBlock, isD0, letGo, heldOk, freshOk, lastBlockOk, inBounds, step4Remember, step4Refuse, step3Write, step3Decode, step3Data, lastBlock, step2ByMeaning, step2Code, step1Restart, step1ResumeHeld, step1D1, step1FirstOctet, steps1To4, frameOver, step5End, step5Hold, step5WithoutPhantom, step5Flag, atFlag, areaOf, work, putBack, flagged, receive}
 use Rattle.link.proofs.Tests.{if-so, if-not, ands, true-false, false-true, or-cases}
 use Rattle.link.proofs.Write.{length-write}
 
@@ -47,13 +47,17 @@ pub record Bounds (g : Agreed) (r : Receiver) : Type 0 where
   pub few : r .left ≤ 207
   pub two : r .zeros ≤ 2
   pub refusals : (r .refusal ≡ 0 → ⊥) → (5 ≤ r .refusal) × (r .refusal ≤ 10)
+  pub restart : r .refusal ≡ 5 → r .held ≡ nothingHeld
   pub out : r .framed ≡ false → FreshOk r
   pub begun : r .framed ≡ true → r .refusal ≡ 0 → LastBlockOk (r .last) (r .resumed) (r .left) (r .decoded)
 
+some-held : {Q : Type 0} (n : ℕ) → holds n ≡ nothingHeld → Q
+some-held n e = absurd (let z : _≡_ {A = ℕ} 0 1 = cc in omega arith)
+
 -- the facts make the test true
-held-ok : (g : Agreed) (h : Fragment) → HeldOk g h → heldOk g h ≡ true
-held-ok g nothingHeld k = refl
-held-ok g (holds n) k = le-leb n (mostDecoded g) k
+held-ok : (g : Agreed) (m : ℕ) (h : Fragment) → HeldOk g h → (m ≡ 5 → h ≡ nothingHeld) → heldOk g m h ≡ true
+held-ok g m nothingHeld k f = refl
+held-ok g m (holds n) k f = rw (ne-eqb m 5 (λ e. some-held n (f e)), le-leb n (mostDecoded g) k)
 
 refusal-ok : (n : ℕ) → ((n ≡ 0 → ⊥) → (5 ≤ n) × (n ≤ 10)) → (eqb n 0 || leb 5 n && leb n 10) ≡ true
 refusal-ok n h =
@@ -73,7 +77,7 @@ unfolding inBounds
 in-bounds g r h =
     rw (
       le-leb (r .decoded) (mostDecoded g) (h .deep),
-      held-ok g (r .held) (h .holds),
+      held-ok g (r .refusal) (r .held) (h .holds) (h .restart),
       le-leb (r .left) 207 (h .few),
       le-leb (r .zeros) 2 (h .two),
       refusal-ok (r .refusal) (h .refusals),
@@ -85,9 +89,13 @@ in-bounds g r h =
     (λ e. fresh-ok r (h .out e)))
 
 -- and the test tells the facts
-ok-held : (g : Agreed) (h : Fragment) → heldOk g h ≡ true → HeldOk g h
-ok-held g nothingHeld e = tt
-ok-held g (holds n) e = leb-true n (mostDecoded g) e
+ok-held : (g : Agreed) (m : ℕ) (h : Fragment) → heldOk g m h ≡ true → HeldOk g h
+ok-held g m nothingHeld e = tt
+ok-held g m (holds n) e = leb-true n (mostDecoded g) (and-right (not (eqb m 5)) (leb n (mostDecoded g)) e)
+
+ok-restart : (g : Agreed) (m : ℕ) (h : Fragment) → heldOk g m h ≡ true → m ≡ 5 → h ≡ nothingHeld
+ok-restart g m nothingHeld e f = refl
+ok-restart g m (holds n) e f = false-true (rw f at e)
 
 ok-block : (b : LastBlock) (r : Receiver) → lastBlockOk b r ≡ true → LastBlockOk b (r .resumed) (r .left) (r .decoded)
 ok-block noBlock r e = e
@@ -120,11 +128,11 @@ bounds g r e =
     let n = r .refusal in
     let known = eqb n 0 || leb 5 n && leb n 10 in
     let frame = cond (r .framed) (not (eqb n 0) || lastBlockOk (r .last) r) (freshOk r) in
-    let all = ands (leb (r .decoded) (mostDecoded g)) (heldOk g (r .held)) (leb (r .left) 207) (leb (r .zeros) 2) known frame e in
+    let all = ands (leb (r .decoded) (mostDecoded g)) (heldOk g n (r .held)) (leb (r .left) 207) (leb (r .zeros) 2) known frame e in
     let in·frame : frame ≡ true = all .5 in
     record {
       deep = leb-true (r .decoded) (mostDecoded g) (all .0);
-      holds = ok-held g (r .held) (all .1);
+      holds = ok-held g n (r .held) (all .1);
       few = leb-true (r .left) 207 (all .2);
       two = leb-true (r .zeros) 2 (all .3);
       refusals =
@@ -132,6 +140,7 @@ bounds g r e =
           or-cases (eqb n 0) (leb 5 n && leb n 10) (all .4)
           (λ k. absurd (some (eqb-true n 0 k)))
           (λ k. (leb-true 5 n (and-left (leb 5 n) (leb n 10) k), leb-true n 10 (and-right (leb 5 n) (leb n 10) k)));
+      restart = ok-restart g n (r .held) (all .1);
       out = λ f. ok-fresh r (sym (if-not (r .framed) _ (freshOk r) f) ∙ in·frame);
       begun =
           λ f z.
@@ -148,6 +157,11 @@ pub steps-data : (g : Agreed) (w : Working) (x : ℕ) → Bounds g (w .state) �
     → steps1To4 g w x ≡ step3Data g w x
 unfolding steps1To4
 steps-data g w x b n l = simp (eq-eqb _ _ n, in-frame g (w .state) b l, lt-ltb _ _ l)
+
+-- out of a frame: it is the first octet of one
+pub first-octet : (g : Agreed) (w : Working) (x : ℕ) → Bounds g (w .state) → w .state .framed ≡ false → steps1To4 g w x ≡ step1FirstOctet g w x
+unfolding steps1To4
+first-octet g w x b f = simp (eq-eqb _ _ (b .out f .refusal·0), f)
 
 -- ---- a call that isn't refused
 
@@ -207,21 +221,26 @@ module _ (g : Agreed) (e : ReceiverEnd) (z : Ready g e) where
 
 -- ---- each part of the steps leaves the state in bounds and the work area as long as it was
 
-remember-in : (g : Agreed) (n : ℕ) (resumed : Bool) (r : Receiver) → 5 ≤ n → n ≤ 10 → Bounds g r → Bounds g (step4Remember n resumed r)
-remember-in g n resumed r h k b =
+remember-in : (g : Agreed) (n : ℕ) (resumed : Bool) (r : Receiver) → 5 ≤ n → n ≤ 10 → (n ≡ 5 → r .held ≡ nothingHeld) → Bounds g r → Bounds g (step4Remember n resumed r)
+remember-in g n resumed r h k i b =
     record {
       deep = b .deep;
       holds = b .holds;
       few = omega arith;
       two = omega arith;
       refusals = λ _. (h, k);
+      restart = i;
       out = λ e. true-false e;
       begun = λ _ e. absurd (omega arith);
     }
 
-refuse-in : (g : Agreed) (n : ℕ) (w : Working) → 5 ≤ n → n ≤ 10 → Fit g w → Fit g (step4Refuse n w)
+refuse-in : (g : Agreed) (n : ℕ) (w : Working) → 5 < n → n ≤ 10 → Fit g w → Fit g (step4Refuse n w)
 refuse-in g n w h k f =
-    record { agrees = f .agrees; bounds = remember-in g n (w .state .resumed) (w .state) h k (f .bounds); long = f .long }
+    record {
+      agrees = f .agrees;
+      bounds = remember-in g n (w .state .resumed) (w .state) (omega arith) k (λ q. absurd (omega arith)) (f .bounds);
+      long = f .long;
+    }
 
 -- in a frame without refusal, where m octets more may be decoded
 pub record InFrame (g : Agreed) (m : ℕ) (w : Working) : Type 0 where
@@ -246,6 +265,7 @@ write-in g xs w f room =
             few = f .few;
             two = f .two;
             refusals = λ some. absurd (some (f .clean));
+            restart = λ q. absurd (omega (arith, f .clean));
             out = λ e. true-false (sym (f .framed) ∙ e);
             begun = λ _ _. f .begun;
           };
@@ -266,6 +286,7 @@ decode-in g xs w f =
             few = omega arith;
             two = omega arith;
             refusals = λ _. (omega arith, omega arith);
+            restart = λ q. absurd (omega arith);
             out = λ k. true-false k;
             begun = λ _ k. absurd (omega arith);
           };
@@ -356,6 +377,7 @@ meaning-in g w c (InTable n z) e f clean =
             few = row .nonzeros-most;
             two = row .zeros-few (omega arith);
             refusals = λ q. absurd (q clean);
+            restart = λ q. absurd (omega arith);
             out = λ q. true-false q;
             begun = λ _ _. last-begins c (r .resumed) n _ (omega arith);
           };
@@ -369,7 +391,7 @@ code-in g w c f clean = meaning-in g w c (meaning (g .zxe) c) refl f clean
 -- D1
 resume-held-in : (g : Agreed) (h : Fragment) (r : Receiver) → HeldOk g h → Bounds g r → Bounds g (step1ResumeHeld h r)
 unfolding step1ResumeHeld
-resume-held-in g nothingHeld r k b = remember-in g 8 true r (omega arith) (omega arith) b
+resume-held-in g nothingHeld r k b = remember-in g 8 true r (omega arith) (omega arith) (λ q. absurd (omega arith)) b
 resume-held-in g (holds n) r k b =
     record {
       deep = k;
@@ -377,6 +399,7 @@ resume-held-in g (holds n) r k b =
       few = omega arith;
       two = omega arith;
       refusals = λ q. absurd (q refl);
+      restart = λ _. refl;
       out = λ q. true-false q;
       begun = λ _ _. refl;
     }
@@ -397,12 +420,32 @@ resume-in g w f =
       long = f .long;
     })
     (λ _.
-    record { agrees = f .agrees; bounds = remember-in g 6 true (w .state) (omega arith) (omega arith) (f .bounds); long = f .long })
+    record { agrees = f .agrees; bounds = remember-in g 6 true (w .state) (omega arith) (omega arith) (λ q. absurd (omega arith)) (f .bounds); long = f .long })
+
+-- nothing held is in bounds, whatever was held
+let-go-in : (g : Agreed) (r : Receiver) → Bounds g r → Bounds g (letGo r)
+let-go-in g r b =
+    record {
+      deep = b .deep;
+      holds = tt;
+      few = b .few;
+      two = b .two;
+      refusals = b .refusals;
+      restart = λ _. refl;
+      out = λ q. let o = b .out q in record { decoded·0 = o .decoded·0; left·0 = o .left·0; zeros·0 = o .zeros·0; last·0 = o .last·0; resumed·0 = o .resumed·0; refusal·0 = o .refusal·0 };
+      begun = b .begun;
+    }
 
 first-in : (g : Agreed) (w : Working) (x : ℕ) → Fit g w → w .state .refusal ≡ 0 → Fit g (step1FirstOctet g w x)
 unfolding step1FirstOctet
 first-in g w x f clean =
-    branch (Fit g) (eqb x 0xFF) (λ _. refuse-in g 5 w (omega arith) (omega arith) f)
+    branch (Fit g) (eqb x 0xFF)
+    (λ _.
+    record {
+      agrees = f .agrees;
+      bounds = remember-in g 5 (w .state .resumed) (letGo (w .state)) (omega arith) (omega arith) (λ _. refl) (let-go-in g (w .state) (f .bounds));
+      long = f .long;
+    })
     (λ _. branch (Fit g) (eqb x 0xD1) (λ _. resume-in g w f) (λ _. code-in g w x f clean))
 
 pub steps-in : (g : Agreed) (w : Working) (x : ℕ) → Fit g w → Fit g (steps1To4 g w x)
@@ -442,16 +485,23 @@ out-of-frame-in g t second h k =
       few = omega arith;
       two = omega arith;
       refusals = λ q. absurd (q refl);
+      restart = λ q. absurd (omega arith);
       out = λ _. record { decoded·0 = refl; left·0 = refl; zeros·0 = refl; last·0 = refl; resumed·0 = refl; refusal·0 = refl };
       begun = λ q. false-true q;
     }
 
-held-after-ok : (g : Agreed) (r : Receiver) → HeldOk g (r .held) → HeldOk g (heldAfter r)
-held-after-ok g r h = branch (HeldOk g) (r .resumed) (λ _. tt) (λ _. h)
+-- the state behind a frame that is delivered or refused: what is held is let go, or stays
+pub by-end : (P : Receiver → Type 0) (r : Receiver)
+    → (r .resumed ≡ true → P (outOfFrame (r .settings) (r .turn) nothingHeld))
+    → (r .resumed ≡ false → P (outOfFrame (r .settings) (r .turn) (r .held))) → P (frameOver (cond (r .resumed) (letGo r) r))
+by-end P r f h = branch (λ (s : Receiver). P (frameOver s)) (r .resumed) f h
 
 module _ (g : Agreed) (r : Receiver) (ag : agreed (r .settings) ≡ g) (b : Bounds g r) where
   end-frame-in : (a : Answer) → OfFrame a → EndsWell g (step5End a r)
-  end-frame-in a t = record { agrees = ag; bounds = out-of-frame-in g _ _ _ (held-after-ok g r (b .holds)); out = refl; tells = t }
+  end-frame-in a t =
+      by-end (λ (s : Receiver). EndsWell g (record { report = a; state = s })) r
+      (λ _. record { agrees = ag; bounds = out-of-frame-in g _ _ _ tt; out = refl; tells = t })
+      (λ _. record { agrees = ag; bounds = out-of-frame-in g _ _ _ (b .holds); out = refl; tells = t })
 
   hold-in : EndsWell g (step5Hold r)
   hold-in = record { agrees = ag; bounds = out-of-frame-in g _ _ _ (b .deep); out = refl; tells = tt }

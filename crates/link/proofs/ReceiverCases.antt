@@ -52,7 +52,7 @@ marksOk r =
     && (if r .framed then not (eqb (r .refusal) 0) || lastBlockOk (r .last) r else freshOk r)
 
 module _ (g : Agreed) (r : Receiver) where
-  pub counts-ok : r .decoded ≤ mostDecoded g → heldOk g (r .held) ≡ true → r .left ≤ 207 → r .zeros ≤ 2 → inBounds g r ≡ marksOk r
+  pub counts-ok : r .decoded ≤ mostDecoded g → heldOk g (r .refusal) (r .held) ≡ true → r .left ≤ 207 → r .zeros ≤ 2 → inBounds g r ≡ marksOk r
   unfolding inBounds
   counts-ok d h l z = simp (le-leb _ _ d, h, le-leb _ _ l, le-leb _ _ z)
 

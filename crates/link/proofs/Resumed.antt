@@ -14,9 +14,9 @@ use Rattle.cobs.specs.declared.Meaning.the-variants.{InTable}
 use Rattle.cobs.proofs.Tests.{branch, decide}
 use Rattle.cobs.proofs.Table.{Row, row-read}
 use Rattle.link.specs.Agreed.{Agreed, leastFrame, mostDecoded}
-use Rattle.link.specs.Receiver.{Fragment, nothingHeld, holds, Receiver, Working, ReceiverEnd, Ended, isNoBlock, isD0, heldAfter, step4Refuse, step3Decode, step3Data, step2ByMeaning, step2Code, step1ResumeHeld, step1D1, step1FirstOctet, steps1To4, step5WithoutPhantom, step5Flag, atFlag, work, receive}
+use Rattle.link.specs.Receiver.{Fragment, nothingHeld, holds, Receiver, Working, ReceiverEnd, Ended, isNoBlock, isD0, step4Refuse, step3Decode, step3Data, step2ByMeaning, step2Code, step1ResumeHeld, step1D1, step1FirstOctet, steps1To4, step5WithoutPhantom, step5Flag, atFlag, work, receive}
 use Rattle.link.proofs.Tests.{if-so, if-not, true-false}
-use Rattle.link.proofs.ReceiverBounds.{Ready, receive-flag}
+use Rattle.link.proofs.ReceiverBounds.{Ready, receive-flag, by-end}
 use Rattle.link.proofs.Follow.{code-is}
 
 -- in a resumed frame, with n data octets left in the block unless a refusal is remembered
@@ -117,7 +117,7 @@ module _ (g : Agreed) (e : ReceiverEnd) (z : Ready g e) where
   unfolding atFlag step5Flag step5WithoutPhantom
   leaves-nothing i =
       let P : Ended → Type 0 = λ t. t .state .held ≡ nothingHeld in
-      let given : heldAfter s ≡ nothingHeld = if-so _ _ _ (i .resumed·is) in
+      let given = by-end (λ (r : Receiver). r .held ≡ nothingHeld) s (λ _. refl) (λ q. true-false (sym (i .resumed·is) ∙ q)) in
       rw (receive-flag g e z)
       (branch P (s .framed)
       (λ _. branch P (not (eqb (s .refusal) 0)) (λ _. given)

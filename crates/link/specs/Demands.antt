@@ -7,10 +7,10 @@ use Prim.Native.Nat.{ℕ, _+_, _/_, _≤_}
 use lib.ListN.{length, take, replicate}
 use Rattle.cobs.specs.CodeBlocks.{frame, withPhantom, flag, Block, AllAllowed, decodedOctets, lineOctets}
 use Rattle.link.specs.Agreed.{Settings, agreed, valid, leastPacket, largestFrame, mostDecoded}
-use Rattle.link.specs.Answers.{Answer, octet, idle, refused}
+use Rattle.link.specs.Answers.{Answer, octet, idle, held, refused}
 use Rattle.link.specs.Sender.{Lane, low, high, Sender, SenderEnd, outAnswer, load, next}
 use Rattle.link.specs.Sender as sender
-use Rattle.link.specs.Receiver.{Fragment, nothingHeld, holds, ReceiverEnd, Receive, areaOf, receive}
+use Rattle.link.specs.Receiver.{Fragment, nothingHeld, holds, Receiver, ReceiverEnd, Receive, areaOf, receive}
 use Rattle.link.specs.Receiver as receiver
 use Rattle.link.specs.ReceiverParts.{ReceiverReady}
 use Rattle.link.specs.Runs.{SenderCall, loading, nextOctet, Station, freshStation, afterNext, run, senderAnswers, loadedInto, Written, written, writtenOctets, sentBy, atTrue, atFalse, receives, received, packetIn, packetsIn, refusalsIn, underWay, leftAside, AllArrive, AllAsExpected, closedPackets}
@@ -113,7 +113,7 @@ AnyBlocks =
 --   arrive: every octet arrives
 --   aside: what is left aside is at octets of the packet that the low lane holds at the flag, and of no other
 --   through: all else comes through. A fragment that the receiver holds at the flag is replaced by the first one that is held then, unless
---   a low packet is under way: with its D1 the older fragment is given up.
+--   a low packet is under way: with its D1 the older fragment is let go.
 pub record AfterChosenFlag (upTo : List Written) (w : Station) (e : ReceiverEnd) (es : List Written) (hs : List Receive) : Type 0 where
   pub one : underWay high false upTo ≡ false
   pub suspended : underWay low false upTo ≡ w .end .state .suspended
@@ -177,3 +177,32 @@ reportAndPacket h = record { report = h .report; packet = packetIn h }
 -- first held octets of the other.
 abbrev pub AreasAside : Type 0
 AreasAside = (e f : ReceiverEnd) → AreasLongEnough e → AreasLongEnough f → Alike e f → (line : List ℕ) → map reportAndPacket (receives e line) ≡ map reportAndPacket (receives f line)
+
+-- ---- a restart: a frame that begins FF, as the receiver reads it (document 02, slip 4)
+
+-- no call of the list is answered Held
+abbrev pub NoHeldReport : List Receive → Type 0
+NoHeldReport hs = (h : Receive) (n : ℕ) (replaced : Bool) → List·Memᴰ h hs → h .report ≡ held n replaced → ⊥
+
+-- the receiver behind a restart: out of a frame, nothing held; the settings, the turn of the areas and the areas are as they were
+abbrev pub restarted : ReceiverEnd → ReceiverEnd
+restarted e = record { state = receiver.outOfFrame (e .state .settings) (e .state .turn) nothingHeld; first = e .first; second = e .second }
+
+-- e: any receiver that is out of a frame, in bounds and with areas long enough, whatever it holds
+--   frame: whatever the frame has behind its FF, its flag reports 5, and the receiver is as opened, but for the turn of the areas
+--   forgets: after the FF, whatever comes, the reports, and the packets that they stand for, are those of any receiver f with the same settings
+--   and turn that held nothing, whatever either has in its areas. So no fragment from before a restart is joined to anything after it
+--   untilHeld: nothing is held from the FF on, until a Held report comes
+--   noneToResume: and while nothing is held, a frame that begins D1 is refused 8, where PRE is on
+--   bounds: 5 is not remembered with something held
+pub record Restart : Type 0 where
+  pub frame : (e : ReceiverEnd) → ReceiverReady e → e .state .framed ≡ false → (rest : List ℕ) → (List·Memᴰ flag rest → ⊥)
+      → receive (received e (0xFF ∷ rest)) flag ≡ record { report = refused 5; after = restarted e }
+  pub forgets : (e f : ReceiverEnd) → ReceiverReady e → ReceiverReady f → e .state .framed ≡ false
+      → f .state ≡ restarted e .state
+      → (line : List ℕ) → map reportAndPacket (receives e (0xFF ∷ line)) ≡ map reportAndPacket (receives f (0xFF ∷ line))
+  pub untilHeld : (e : ReceiverEnd) → ReceiverReady e → e .state .framed ≡ false → (line : List ℕ) → NoHeldReport (receives e (0xFF ∷ line))
+      → received e (0xFF ∷ line) .state .held ≡ nothingHeld
+  pub noneToResume : (e : ReceiverEnd) → ReceiverReady e → e .state .framed ≡ false → agreed (e .state .settings) .pre ≡ true → e .state .held ≡ nothingHeld
+      → (rest : List ℕ) → (List·Memᴰ flag rest → ⊥) → receive (received e (0xD1 ∷ rest)) flag .report ≡ refused 8
+  pub bounds : (r : Receiver) (n : ℕ) → r .refusal ≡ 5 → r .held ≡ holds n → receiver.inBounds (agreed (r .settings)) r ≡ false

@@ -1,5 +1,5 @@
--- What holds of every single call (docs/DEMANDS.md; document 01, "Sender" and "Receiver"): what it leaves as it was, and what becomes of what
--- is held. The steps say it too, each for itself; here it is said of the whole call.
+-- What holds of every single call (docs/DEMANDS.md; document 01, "Sender" and "Receiver"; document 02, slip 4): what it leaves as it was, and
+-- what becomes of what is held. The steps say it too, each for itself; here it is said of the whole call.
 use mathlib.Core.Bool.{Bool, true, false, not, _&&_}
 use mathlib.Core.List.{List}
 use mathlib.Core.Logic.{_⊎_}
@@ -134,11 +134,11 @@ ReportsWithin = (e : ReceiverEnd) (x : ℕ) → Within (agreed (e .state .settin
 
 -- ---- the receiver, in bounds and with areas long enough
 
--- An octet that is no flag and resumes nothing, e before it, f after it: it may be written after those decoded in the work area. All else in both
--- areas stays, and so do what is held and the turn of the areas.
-pub record TakesIn (e f : ReceiverEnd) : Type 0 where
+-- An octet x that is no flag and resumes nothing, e before it, f after it: it may be written after those decoded in the work area. All else in
+-- both areas stays, and so does the turn of the areas. What is held stays too, unless x is an FF that begins a frame: then nothing is held.
+pub record TakesIn (x : ℕ) (e f : ReceiverEnd) : Type 0 where
   pub turn : f .state .turn ≡ e .state .turn
-  pub held : f .state .held ≡ e .state .held
+  pub held : f .state .held ≡ (if not (e .state .framed) && eqb (fromLine x) 0xFF then nothingHeld else e .state .held)
   pub other : areaOf (not (e .state .turn)) f ≡ areaOf (not (e .state .turn)) e
   pub count : e .state .decoded ≤ f .state .decoded
   pub decoded : take (e .state .decoded) (areaOf (e .state .turn) f) ≡ take (e .state .decoded) (areaOf (e .state .turn) e)
@@ -198,4 +198,4 @@ pub record ReceivesSo : Type 0 where
       → Resumes n e (receive e 0xD1 .after)
   pub takesIn : (e : ReceiverEnd) → ReceiverReady e → (x : ℕ) → (x ≡ flag → ⊥)
       → (e .state .framed ≡ false → fromLine x ≡ 0xD1 → agreed (e .state .settings) .pre ≡ true → e .state .held ≡ nothingHeld)
-      → TakesIn e (receive e x .after)
+      → TakesIn x e (receive e x .after)

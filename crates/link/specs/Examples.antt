@@ -1,5 +1,5 @@
 -- Settings, codes, bounds and refusals, by example (document 01, "Code blocks", "Refusal table", and "Receiver" on what is held; document 02,
--- slips 1 and 11): one more table beside the marked cases, and three sentences that are general.
+-- slips 1, 4 and 11): one more table beside the marked cases, and three sentences that are general.
 use mathlib.Core.Path.{_≡_}
 use mathlib.Core.Bool.{Bool, true, false, _&&_}
 use mathlib.Core.List.{List, [], _∷_, _++_, List·Memᴰ}
@@ -13,7 +13,7 @@ use Rattle.cobs.specs.declared.Meaning.the-variants.{InTable, NotAgreed, NoCode
 use Rattle.link.specs.Agreed.{Settings, agreed, validWidth, validLimit, valid, leastPacket, leastFrame, largestFrame, mostDecoded}
 use Rattle.link.specs.Answers.{Answer, done, octet, quiet, refused}
 use Rattle.link.specs.Sender.{Lane, low, high, sending, Sender, SenderEnd, laneState, openedSender, openSender, withLane, withBlock, withLine, withMarks, outAnswer, inBounds, load, next}
-use Rattle.link.specs.Receiver.{Fragment, nothingHeld, holds, LastBlock, noBlock, blockD0, otherBlock, Receiver, ReceiverEnd, openedReceiver, openReceiver, outOfFrame, withDecoded, withDue, inFrame, receive}
+use Rattle.link.specs.Receiver.{Fragment, nothingHeld, holds, LastBlock, noBlock, blockD0, otherBlock, Receiver, ReceiverEnd, openedReceiver, openReceiver, outOfFrame, withHeld, withDecoded, withDue, inFrame, receive}
 use Rattle.link.specs.Sender as sender
 use Rattle.link.specs.Receiver as receiver
 use Rattle.link.specs.Runs.{SenderCall, loading, nextOctet, freshStation, run, senderAnswers, written, writtenOctets, received}
@@ -346,6 +346,15 @@ receiverBounds =
     ∷ inBoundsR (framed noBlock false 5 0 0 0) true
     ∷ inBoundsR (framed noBlock false 10 0 0 0) true
     ∷ inBoundsR (framed noBlock false 11 0 0 0) false
+    -- with 5 nothing is held, with any other something may be (slip 4)
+    ∷ inBoundsR (withHeld (holds 0) (framed noBlock false 5 0 0 0)) false
+    ∷ inBoundsR (withHeld (holds 1) (framed noBlock false 5 0 0 0)) false
+    ∷ inBoundsR (framed otherBlock true 5 2051 207 2) true
+    ∷ inBoundsR (withHeld (holds 1) (framed noBlock false 6 0 0 0)) true
+    ∷ inBoundsR (withHeld (holds 1) (framed noBlock false 7 0 0 0)) true
+    ∷ inBoundsR (withHeld (holds 1) (framed noBlock true 8 0 0 0)) true
+    ∷ inBoundsR (withHeld (holds 1) (framed noBlock true 9 0 0 0)) true
+    ∷ inBoundsR (withHeld (holds 1) (framed noBlock false 10 0 0 0)) true
     -- outside a frame all else is as fresh
     ∷ inBoundsR (withDecoded 1 (openedReceiver (bits16 0x03))) false
     ∷ inBoundsR (withDue 1 0 (openedReceiver (bits16 0x03))) false
@@ -406,10 +415,10 @@ heldExamples =
     -- a resumed frame that is refused leaves nothing held
     ∷ case (reported (bits16 0x03) (broken ++ (0xD1 ∷ 0x01 ∷ 0x7E ∷ 0xD1 ∷ 0x01 ∷ 0x7E ∷ [])) (heldOf 3 false ∷ refusedBy 13 ∷ refusedBy 8 ∷ []))
     ∷ case (reported (bits16 0x03) (broken ++ (0xD1 ∷ 0x7E ∷ 0xD1 ∷ 0x01 ∷ 0x7E ∷ [])) (heldOf 3 false ∷ refusedBy 9 ∷ refusedBy 8 ∷ []))
-    -- any other refused frame leaves what is held: 13, 5, 7,
+    -- any other refused frame but one that begins FF leaves what is held: 13, 7,
     ∷ case
-    (reported (bits16 0x03) (broken ++ ((0x01 ∷ 0x7E ∷ 0xFF ∷ 0x7E ∷ 0xD2 ∷ 0x7E ∷ []) ++ (resuming ++ (0x7E ∷ []))))
-    (heldOf 3 false ∷ refusedBy 13 ∷ refusedBy 5 ∷ refusedBy 7 ∷ packetOf false digits ∷ []))
+    (reported (bits16 0x03) (broken ++ ((0x01 ∷ 0x7E ∷ 0xD2 ∷ 0x7E ∷ []) ++ (resuming ++ (0x7E ∷ []))))
+    (heldOf 3 false ∷ refusedBy 13 ∷ refusedBy 7 ∷ packetOf false digits ∷ []))
     -- 6,
     ∷ case (reported (bits16 0x02) (broken ++ ((0xE0 ∷ 0x7E ∷ []) ++ (resuming ++ (0x7E ∷ [])))) (heldOf 3 false ∷ refusedBy 6 ∷ packetOf false digits ∷ []))
     -- 12,
@@ -434,6 +443,19 @@ heldExamples =
     ∷ case
     (reported (bits16 0x03) (0x05 ∷ 0x7E ∷ 0x05 ∷ 0x7E ∷ 0xD1 ∷ (whole ++ (0x7E ∷ [])))
     (heldOf 0 false ∷ heldOf 0 true ∷ packetOf true digits ∷ []))
+    -- a restart lets it go, at its FF, with PRE off too; a resumed frame then finds nothing, and the next fragment replaces nothing (slip 4)
+    ∷ case
+    (reported (bits16 0x03) (0x05 ∷ 0x31 ∷ 0x7E ∷ 0xFF ∷ 0x03 ∷ 0x7E ∷ 0xD1 ∷ 0x01 ∷ 0x7E ∷ [])
+    (heldOf 1 false ∷ refusedBy 5 ∷ refusedBy 8 ∷ []))
+    ∷ case (reported (bits16 0x03) (0x05 ∷ 0x31 ∷ 0x7E ∷ 0xFF ∷ 0x7E ∷ 0x05 ∷ 0x7E ∷ []) (heldOf 1 false ∷ refusedBy 5 ∷ heldOf 0 false ∷ []))
+    ∷ leaves (freshEnd (bits16 0x03)) (0x05 ∷ 0x31 ∷ 0x7E ∷ 0xFF ∷ []) nothingHeld
+    ∷ leaves holdsUnasked (0xFF ∷ []) nothingHeld
+    -- another frame that is refused does not
+    ∷ case (reported (bits16 0x03) (0x05 ∷ 0x31 ∷ 0x7E ∷ 0xD2 ∷ 0x7E ∷ 0xD1 ∷ 0x01 ∷ 0x7E ∷ []) (heldOf 1 false ∷ refusedBy 7 ∷ refusedBy 13 ∷ []))
+    -- FF behind a frame's first octet is no restart: behind D1, as a code, as data
+    ∷ case (reported (bits16 0x03) (0x05 ∷ 0x31 ∷ 0x7E ∷ 0xD1 ∷ 0xFF ∷ 0x7E ∷ []) (heldOf 1 false ∷ refusedBy 7 ∷ []))
+    ∷ leaves (freshEnd (bits16 0x03)) (0x05 ∷ 0x31 ∷ 0x7E ∷ 0x01 ∷ 0xFF ∷ []) (holds 1)
+    ∷ leaves (freshEnd (bits16 0x03)) (0x05 ∷ 0x31 ∷ 0x7E ∷ 0x03 ∷ 0xFF ∷ []) (holds 1)
     -- the flag of an empty frame leaves what is held
     ∷ case (reported (bits16 0x03) (broken ++ (0x7E ∷ 0x7E ∷ (resuming ++ (0x7E ∷ [])))) (heldOf 3 false ∷ packetOf false digits ∷ []))
     ∷ []

@@ -126,7 +126,7 @@ callsAfterFlag = receives (receive (received (freshEnd (bits16 0x03)) noise) fla
 --   premise: the chosen octet is a flag
 --   underWay: at it the low packet is under way
 --   line: what is written after it
---   through: all packets that are begun after it come through, the fragments of 51 52 53 on their way; the fragment of the noise was given up
+--   through: all packets that are begun after it come through, the fragments of 51 52 53 on their way; the fragment of the noise was let go
 --   aside: what is reported at the closing flag of 31 32 33, whose rest is joined to that fragment
 pub record AtWork : Type 0 where
   pub premise : outAnswer (next (atFlag .end) .out) ≡ octet flag

@@ -1,4 +1,4 @@
--- The receiver's call, one for each octet (docs/READING.md and document 01, "Receiver"; the bounds: "Refusal table").
+-- The receiver's call, one for each octet (docs/READING.md; document 01, "Receiver", and for the bounds "Refusal table"; document 02, slip 4).
 use mathlib.Core.Bool.{Bool, true, false, not, _&&_, _||_}
 use mathlib.Core.List.{List, [], _∷_, _++_}
 use Prim.Native.Nat.{ℕ, _+_, _-_}
@@ -61,13 +61,29 @@ openReceiver settings =
     else if not (validWidth (agreed settings)) then refusedOpening 3
     else opened (openedReceiver settings)
 
--- The state with some items changed. But for these four and `outOfFrame` no definition and no proof writes a whole state out.
+-- The state with some items changed. But for these five and `outOfFrame` no definition and no proof writes a whole state out.
 
--- the turn of the areas and what is held
-abbrev pub withHeld : Bool → Fragment → Receiver → Receiver
-withHeld turn fragment r =
+-- the turn of the areas
+abbrev pub withTurn : Bool → Receiver → Receiver
+withTurn turn r =
     record {
       turn = turn;
+      decoded = r .decoded;
+      held = r .held;
+      left = r .left;
+      zeros = r .zeros;
+      last = r .last;
+      framed = r .framed;
+      resumed = r .resumed;
+      refusal = r .refusal;
+      settings = r .settings;
+    }
+
+-- what is held
+abbrev pub withHeld : Fragment → Receiver → Receiver
+withHeld fragment r =
+    record {
+      turn = r .turn;
       decoded = r .decoded;
       held = fragment;
       left = r .left;
@@ -127,6 +143,11 @@ inFrame last resumed refusal r =
       settings = r .settings;
     }
 
+-- What is held is let go: from now on nothing is. So at an FF that begins a frame (slip 4), at a D1 that is accepted, and at the flag of a
+-- resumed frame that is delivered or refused; nowhere else.
+abbrev pub letGo : Receiver → Receiver
+letGo r = withHeld nothingHeld r
+
 -- ---- in bounds ("Refusal table", last paragraph)
 
 abbrev pub isNoBlock : LastBlock → Bool
@@ -139,9 +160,10 @@ isD0 noBlock = false
 isD0 blockD0 = true
 isD0 otherBlock = false
 
-abbrev pub heldOk : Agreed → Fragment → Bool
-heldOk g nothingHeld = true
-heldOk g (holds n) = leb n (mostDecoded g)
+-- what is held, by the remembered refusal: with 5 nothing (slip 4), else no more than may be decoded
+abbrev pub heldOk : Agreed → ℕ → Fragment → Bool
+heldOk g refusal nothingHeld = true
+heldOk g refusal (holds n) = not (eqb refusal 5) && leb n (mostDecoded g)
 
 -- outside a frame: as in a fresh receiver, whatever its work area, its settings and what it holds
 abbrev pub freshOk : Receiver → Bool
@@ -157,7 +179,7 @@ lastBlockOk otherBlock r = ltb 0 (r .left) || ltb 0 (r .decoded)
 unfoldable pub inBounds : Agreed → Receiver → Bool
 inBounds g r =
     leb (r .decoded) (mostDecoded g)
-    && heldOk g (r .held)
+    && heldOk g (r .refusal) (r .held)
     && leb (r .left) 207
     && leb (r .zeros) 2
     && (eqb (r .refusal) 0 || leb 5 (r .refusal) && leb (r .refusal) 10)
@@ -218,11 +240,19 @@ step2ByMeaning g w c NoCode = step4Refuse 7 w
 unfoldable pub step2Code : Agreed → Working → ℕ → Working
 step2Code g w c = step2ByMeaning g w c (meaning (g .zxe) c)
 
--- Step 1, D1: it makes the frame a resumed one. If PRE is off it is refused 6, and if nothing is held 8. Else the area that holds becomes the
--- work area, decoding goes on behind what it holds, and from now on nothing is held.
+-- Step 1, FF: a restart (slip 4's word), as a peer that begins anew, in plain PPP, sends it. What is held is let go at once, and the frame
+-- is refused 5.
+abbrev pub step1Restart : Receiver → Receiver
+step1Restart r = step4Remember 5 (r .resumed) (letGo r)
+
+-- Step 1, D1: it makes the frame a resumed one. If PRE is off it is refused 6, and if nothing is held 8. Else what is held is let go, the area
+-- that held it becomes the work area, and decoding goes on there, behind its n octets.
+abbrev pub step1Resume : ℕ → Receiver → Receiver
+step1Resume n r = withDue 0 0 (withDecoded n (inFrame noBlock true 0 (withTurn (not (r .turn)) r)))
+
 unfoldable pub step1ResumeHeld : Fragment → Receiver → Receiver
 step1ResumeHeld nothingHeld r = step4Remember 8 true r
-step1ResumeHeld (holds n) r = withDue 0 0 (withDecoded n (inFrame noBlock true 0 (withHeld (not (r .turn)) nothingHeld r)))
+step1ResumeHeld (holds n) r = step1Resume n (letGo r)
 
 unfoldable pub step1D1 : Agreed → Receiver → Receiver
 step1D1 g r = if g .pre then step1ResumeHeld (r .held) r else step4Remember 6 true r
@@ -230,7 +260,7 @@ step1D1 g r = if g .pre then step1ResumeHeld (r .held) r else step4Remember 6 tr
 -- Step 1: the first octet of a frame.
 unfoldable pub step1FirstOctet : Agreed → Working → ℕ → Working
 step1FirstOctet g w x =
-    if eqb x 0xFF then step4Refuse 5 w
+    if eqb x 0xFF then record { state = step1Restart (w .state); area = w .area }
     else if eqb x 0xD1 then record { state = step1D1 g (w .state); area = w .area }
     else step2Code g w x
 
@@ -248,13 +278,13 @@ pub record Ended : Type 0 where
   pub report : Answer
   pub state : Receiver
 
--- What is held from the flag on, where the frame was delivered or refused: after a resumed one nothing, else what was held.
-abbrev pub heldAfter : Receiver → Fragment
-heldAfter r = if r .resumed then nothingHeld else r .held
+-- the frame is over
+abbrev pub frameOver : Receiver → Receiver
+frameOver r = outOfFrame (r .settings) (r .turn) (r .held)
 
--- a frame that is delivered or refused ends: out of a frame, with what is then held
+-- A frame that is delivered or refused: if it is a resumed one, what is held is let go.
 abbrev pub step5End : Answer → Receiver → Ended
-step5End a r = record { report = a; state = outOfFrame (r .settings) (r .turn) (heldAfter r) }
+step5End a r = record { report = a; state = frameOver (if r .resumed then letGo r else r) }
 
 -- Held: how many octets are decoded, and whether this frame, if not a resumed one, took an older fragment's place. The two areas change places:
 -- the work area holds from now on.

@@ -21,9 +21,9 @@ use link::sender::Sender;
 
 pub(crate) fn run() {
     // S: a packet in the low lane, H: in the high one, T: loaded twice. The marked frames (a) to (d), refusals 1 and 4.
-    // R: octets received, where the one at a place comes so many times more. The marked captures (e) to (g), refusals 5, 7, 8, 9, 13 and
-    // 14; 6 and 11; the marked case (h), and refusals 10 and 12. A: the second area is one octet too short, L: the state has 208 data octets
-    // left. Refusals 2 and 3.
+    // R: octets received, where the one at a place comes so many times more. The marked captures (e) to (g), refusals 5, 7, 8 and 9,
+    // 5 and 7 with something held (document 02, slip 4), 13 and 14; 6 and 11; the marked case (h), and refusals 10 and 12. A: the second area
+    // is one octet too short, L: the state has 208 data octets left. Refusals 2 and 3.
     rows::compare_all(
         16,
         2048,
@@ -40,6 +40,8 @@ pub(crate) fn run() {
         R\x03\x00\x00\x0b\x02\x02reported of\xd2\x7eR\x07\
         R\x03\x00\x00\x0b\x03\x02reported of\xd1\x01\x7eR\x08\
         R\x03\x00\x00\x0b\x05\x05reported of\x051\x7e\xd1\x7eH\x01\x00R\x09\
+        R\x03\x00\x00\x0b\x09\x07reported of\x051\x7e\xff\x03\x7e\xd1\x01\x7eH\x01\x00R\x05R\x08\
+        R\x03\x00\x00\x0b\x08\x07reported of\x051\x7e\xd2\x7e\xd1\x01\x7eH\x01\x00R\x07R\x0d\
         R\x03\x00\x00\x0b\x02\x02reported of\xd3\x7eR\x0d\
         R\x03\x00\x00\x0b\x06\x02reported of\x051111\x7eR\x0e\
         R\x00\x00\x00\x18\x02\x02settings 00, reported of\xe0\x7eR\x06\

@@ -34,15 +34,22 @@ returns-2 c =
     let p = e .before .pre2 in
     simp (sym (p .ensures) ∙ not-false (p .result) (e .if1 .left), c .before .enum-told .given .1, c .step4-remember2 .ensures)
 
+let-go-requires : tie.Need-let-go-requires
+let-go-requires c κs = search needs
+
+step1-resume-requires : tie.Need-step1-resume-requires
+step1-resume-requires c κs = search needs
+
 returns-3 : tie.Need-returns-3
 unfolding step1D1 step1ResumeHeld
 returns-3 c =
-    let h = c .before .before in
+    let l = c .before in
+    let h = l .before .before in
     let e = h .before .before in
     let p = e .before .pre2 in
-    simp (sym (p .ensures) ∙ not-false (p .result) (e .if1 .left), h .held .given .1)
+    simp (sym (p .ensures) ∙ not-false (p .result) (e .if1 .left), h .held .given .1, c .step1-resume .ensures, l .let-go .ensures)
 
 pub step1-d1-spec : {M : Type 1} → statement M
 step1-d1-spec =
     tie.close
-    (tie.spec pre-requires step4-remember-requires returns enum-told step4-remember-requires-2 enum-known-held returns-2 returns-3)
+    (tie.spec pre-requires step4-remember-requires returns enum-told step4-remember-requires-2 enum-known-held let-go-requires step1-resume-requires returns-2 returns-3)

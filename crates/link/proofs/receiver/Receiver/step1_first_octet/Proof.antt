@@ -5,12 +5,15 @@ use Rattle.link.specs.Receiver.{step1FirstOctet}
 use Rattle.link.proofs.receiver.Receiver.step1_first_octet.Statement.{statement}
 use Rattle.link.proofs.receiver.Receiver.step1_first_octet.Tie as tie
 
+let-go-requires : tie.Need-let-go-requires
+let-go-requires c κs = search needs
+
 step4-remember-requires : tie.Need-step4-remember-requires
 step4-remember-requires c κs = search needs
 
 returns : tie.Need-returns
 unfolding step1FirstOctet
-returns c = simp (eq-eqb _ _ (c .before .if1 .taken), c .step4-remember .ensures)
+returns c = simp (eq-eqb _ _ (c .before .before .if1 .taken), c .step4-remember .ensures, c .before .let-go .ensures)
 
 step1-d1-requires : tie.Need-step1-d1-requires
 step1-d1-requires c κs = search needs
@@ -38,6 +41,7 @@ pub step1-first-octet-spec : {M : Type 1} → statement M
 step1-first-octet-spec =
     tie.close
     (tie.spec
+    let-go-requires
     step4-remember-requires
     returns
     step1-d1-requires

@@ -3,17 +3,20 @@ use borrow.Author.Needs.{needs}
 use Rattle.link.proofs.receiver.Receiver.step5_end.Statement.{statement}
 use Rattle.link.proofs.receiver.Receiver.step5_end.Tie as tie
 
-out-of-frame-requires : tie.Need-out-of-frame-requires
-out-of-frame-requires c κs = search needs
+let-go-requires : tie.Need-let-go-requires
+let-go-requires c κs = search needs
+
+frame-over-requires : tie.Need-frame-over-requires
+frame-over-requires c κs = search needs
 
 returns : tie.Need-returns
-returns c = simp (c .before .if1 .taken, c .out-of-frame .ensures)
+returns c = simp (c .before .before .if1 .taken, c .frame-over .ensures, c .before .let-go .ensures)
 
-out-of-frame-requires-2 : tie.Need-out-of-frame-requires-2
-out-of-frame-requires-2 c κs = search needs
+frame-over-requires-2 : tie.Need-frame-over-requires-2
+frame-over-requires-2 c κs = search needs
 
 returns-2 : tie.Need-returns-2
-returns-2 c = simp (c .before .if1 .left, c .out-of-frame2 .ensures)
+returns-2 c = simp (c .before .if1 .left, c .frame-over2 .ensures)
 
 pub step5-end-spec : {M : Type 1} → statement M
-step5-end-spec = tie.close (tie.spec out-of-frame-requires returns out-of-frame-requires-2 returns-2)
+step5-end-spec = tie.close (tie.spec let-go-requires frame-over-requires returns frame-over-requires-2 returns-2)
