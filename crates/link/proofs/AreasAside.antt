@@ -13,7 +13,7 @@ use Rattle.fcs.specs.CheckSequence.{good}
 use Rattle.cobs.specs.CodeBlocks.{flag, fromLine, meaning}
 use Rattle.cobs.specs.declared.Meaning.{Meaning}
 use Rattle.cobs.specs.declared.Meaning.the-variants.{InTable, NotAgreed, NoCode}
-use Rattle.cobs.proofs.Tests.{branch, decide}
+use Rattle.cobs.proofs.Tests.{decide}
 use Rattle.link.specs.Agreed.{Agreed, agreed, leastFrame, mostDecoded, valid}
 use Rattle.link.specs.Answers.{Answer, done, octet, idle, quiet, packet, held, refused}
 use Rattle.link.specs.Receiver.{Fragment, nothingHeld, holds, Receiver, Working, ReceiverEnd, Receive, Ended, withDue, step2BeginBlock, isNoBlock, isD0, inBounds, step4Remember, step4Refuse, step3Write, step3Decode, step3Data, lastBlock, step2ByMeaning, step2Code, letGo, step1ResumeHeld, step1D1, step1FirstOctet, steps1To4, step5End, step5Hold, step5WithoutPhantom, step5Flag, atFlag, areaOf, work, putBack, flagged, receive}

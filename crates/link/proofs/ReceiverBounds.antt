@@ -16,7 +16,7 @@ use Rattle.cobs.proofs.Tests.{branch, decide, and-left, and-right}
 use Rattle.cobs.proofs.Table.{read-row, numbers}
 use Rattle.link.specs.Agreed.{Settings, Agreed, agreed, valid, leastFrame, mostDecoded}
 use Rattle.link.specs.Answers.{Answer, done, octet, idle, quiet, packet, held, refused}
-use Rattle.link.specs.Receiver.{Fragment, nothingHeld, holds, LastBlock, noBlock, blockD0, otherBlock, Receiver, Working, ReceiverEnd, Receive, Ended, outOfFrame, withDue, step2BeginBlock, isNoBlock, isD0, letGo, heldOk, freshOk, lastBlockOk, inBounds, step4Remember, step4Refuse, step3Write, step3Decode, step3Data, lastBlock, step2ByMeaning, step2Code, step1Restart, step1ResumeHeld, step1D1, step1FirstOctet, steps1To4, frameOver, step5End, step5Hold, step5WithoutPhantom, step5Flag, atFlag, areaOf, work, putBack, flagged, receive}
+use Rattle.link.specs.Receiver.{Fragment, nothingHeld, holds, LastBlock, noBlock, blockD0, otherBlock, Receiver, Working, ReceiverEnd, Receive, Ended, outOfFrame, withDue, step2BeginBlock, isNoBlock, isD0, letGo, heldOk, freshOk, lastBlockOk, inBounds, step4Remember, step4Refuse, step3Write, step3Decode, step3Data, lastBlock, step2ByMeaning, step2Code, step1ResumeHeld, step1D1, step1FirstOctet, steps1To4, frameOver, step5End, step5Hold, step5WithoutPhantom, step5Flag, atFlag, areaOf, work, putBack, flagged, receive}
 use Rattle.link.proofs.Tests.{if-so, if-not, ands, true-false, false-true, or-cases}
 use Rattle.link.proofs.Write.{length-write}
 

@@ -16,7 +16,7 @@ use Rattle.link.specs.Sender.{Lane, low, high, sending, Sender, SenderEn
 use Rattle.link.specs.Receiver.{Fragment, nothingHeld, holds, LastBlock, noBlock, blockD0, otherBlock, Receiver, ReceiverEnd, openedReceiver, openReceiver, outOfFrame, withHeld, withDecoded, withDue, inFrame, receive}
 use Rattle.link.specs.Sender as sender
 use Rattle.link.specs.Receiver as receiver
-use Rattle.link.specs.Runs.{SenderCall, loading, nextOctet, freshStation, run, senderAnswers, written, writtenOctets, received}
+use Rattle.link.specs.Runs.{SenderCall, loading, nextOctet, run, senderAnswers, written, writtenOctets, received}
 use Rattle.link.specs.Progress.{callsToEmpty}
 use Rattle.link.specs.Demands.{freshReceiver}
 use Rattle.link.specs.Marked.{bits16, Case, sent, reported, refusedTen, chosen, receiverArea, freshSender, freshEnd, packetOf, heldOf, refusedBy, digits}
