@@ -27,7 +27,7 @@ use Rattle.link.proofs.Agreed.{valid-width, valid-limit}
 use Rattle.link.proofs.Write.{length-write, take-write}
 use Rattle.link.proofs.ReceiverBounds as heard
 use Rattle.link.proofs.ReceiverCases.{not-valid, too-short, out-of-bounds}
-use Rattle.link.proofs.ReadOn.{ready-of}
+use Rattle.link.proofs.ReadOn.{ready-of, first-stays, second-stays}
 use Rattle.link.proofs.Follow.{work-back, aside-back}
 use Rattle.link.proofs.Resumed.{D1-is}
 use Rattle.link.proofs.SenderBounds as sent
@@ -216,16 +216,8 @@ refused-changes-nothing = record { load = load-refused; next = next-refused; rec
 
 -- ---- the work area taken and put back
 
-pub same-first : (b : Bool) (first second : List ℕ) → cond b first (cond b second first) ≡ first
-same-first true first second = refl
-same-first false first second = refl
-
-pub same-second : (b : Bool) (first second : List ℕ) → cond b (cond b second first) second ≡ second
-same-second true first second = refl
-same-second false first second = refl
-
 put-back-same : (e : ReceiverEnd) → putBack e (work e) ≡ e
-put-back-same e = rw (same-first (e .state .turn) (e .first) (e .second), same-second (e .state .turn) (e .first) (e .second))
+put-back-same e = rw (first-stays (e .state .turn) (e .first) (e .second), second-stays (e .state .turn) (e .first) (e .second))
 
 -- ---- an octet is written only after those that are decoded
 
@@ -562,8 +554,8 @@ module _ (g : Agreed) (e : ReceiverEnd) where
           turn = refl;
           held = refl;
           decoded = refl;
-          first = same-first (e .state .turn) (e .first) (e .second);
-          second = same-second (e .state .turn) (e .first) (e .second);
+          first = first-stays (e .state .turn) (e .first) (e .second);
+          second = second-stays (e .state .turn) (e .first) (e .second);
         })
 
     octet-writes : (x : ℕ) → (x ≡ flag → ⊥) → (e .state .framed ≡ false → fromLine x ≡ 0xD1 → g .pre ≡ true → e .state .held ≡ nothingHeld)

@@ -172,7 +172,7 @@ empty-holds = ((refl, refl), ((refl, refl), ((refl, refl), tt)))
 
 frames-hold : AllHold frameExamples
 unfolding run received senderAnswers written receives notQuiet afterLoad afterNext agreed valid putFrame load step4BreakOff step5Data step6Code steps3To6 step2NoLane steps1To6 next sender.inBounds step3Decode step3Data step2ByMeaning step2Code step1ResumeHeld step1D1 step1FirstOctet steps1To4 step5WithoutPhantom step5Flag atFlag receive receiver.inBounds inRange codeTable meaning toLine fromLine leading choice _⊕_ bitStep bitSteps entry octetStep feed register lowFirst fcs good
-frames-hold = (refl, (refl, (refl, (refl, (many-over, (refl, (refl, (refl, (refl, (refl, (refl, (refl, (refl, ((refl, refl), ((refl, refl), ((refl, refl), ((refl, refl), ((refl, refl), tt))))))))))))))))))
+frames-hold = (refl, (refl, (refl, (refl, (many-over, (refl, (refl, (refl, (refl, (refl, (refl, (refl, (refl, ((refl, refl), ((refl, refl), ((refl, refl), ((refl, refl), ((refl, refl), ((refl, refl), ((refl, refl), ((refl, refl), tt)))))))))))))))))))))
 
 held-holds : AllHold heldExamples
 unfolding run received senderAnswers written receives notQuiet afterLoad afterNext agreed valid putFrame load step4BreakOff step5Data step6Code steps3To6 step2NoLane steps1To6 next sender.inBounds step3Decode step3Data step2ByMeaning step2Code step1ResumeHeld step1D1 step1FirstOctet steps1To4 step5WithoutPhantom step5Flag atFlag receive receiver.inBounds inRange codeTable meaning toLine fromLine leading choice _⊕_ bitStep bitSteps entry octetStep feed register lowFirst fcs good

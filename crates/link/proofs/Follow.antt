@@ -24,7 +24,7 @@ use Rattle.link.specs.Receiver.{Fragment, nothingHeld, holds, LastBlock,
 use Rattle.link.specs.Runs.{packetIn}
 use Rattle.link.proofs.Tests.{if-so, if-not, true-false}
 use Rattle.link.proofs.Write.{length-write, take-write}
-use Rattle.link.proofs.ReceiverBounds.{Bounds, by-end, Fit, Ready, receive-flag, steps-data}
+use Rattle.link.proofs.ReceiverBounds.{Bounds, by-end, Fit, Ready, receive-flag, first-octet, steps-data}
 
 -- Before any block, or after D0, some of D is left behind what is due of the block.
 abbrev pub Ahead : LastBlock → ℕ → ℕ → Type 0
@@ -388,13 +388,11 @@ module _ (g : Agreed) (e : ReceiverEnd) (z : Ready g e) where
 
   pub resumes : (d : List ℕ) (pos : ℕ) → Holding d pos e → r .framed ≡ false → g .pre ≡ true → pos < length d
       → Follows d pos 0 0 (work (putBack e (steps1To4 g (work e) 0xD1)))
-  unfolding steps1To4 step1FirstOctet step1ResumeHeld
+  unfolding step1FirstOctet step1ResumeHeld
   resumes d pos h out pre more =
-      let o = z .bounds .out out in
       let up : Working = record { state = step1ResumeHeld (holds pos) r; area = work e .area } in
       let eq : steps1To4 g (work e) 0xD1 ≡ up =
-      if-not _ _ _ (ap not (eq-eqb (r .refusal) 0 (o .refusal·0)))
-      ∙ (if-so _ _ _ (ap not out) ∙ ap (λ (s : Receiver). record { state = s; area = work e .area }) (resume-is pos (h .held·is) pre)) in
+      first-octet g (work e) 0xD1 (z .bounds) out ∙ ap (λ (s : Receiver). record { state = s; area = work e .area }) (resume-is pos (h .held·is) pre) in
       subst (λ (w : Working). Follows d pos 0 0 (work (putBack e w))) (sym eq)
       (record {
         clean = refl;

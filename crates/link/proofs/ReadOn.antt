@@ -93,11 +93,11 @@ module _ {A : Type 0} where
   found true x y z = refl
   found false x y z = refl
 
-  first-stays : (b : Bool) (x y : A) → cond b x (cond b y x) ≡ x
+  pub first-stays : (b : Bool) (x y : A) → cond b x (cond b y x) ≡ x
   first-stays true x y = refl
   first-stays false x y = refl
 
-  second-stays : (b : Bool) (x y : A) → cond b (cond b y x) y ≡ y
+  pub second-stays : (b : Bool) (x y : A) → cond b (cond b y x) y ≡ y
   second-stays true x y = refl
   second-stays false x y = refl
 

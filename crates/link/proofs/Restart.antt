@@ -20,10 +20,10 @@ use Rattle.link.specs.Demands.{ReportAndPacket, reportAndPacket, NoHeldR
 use Rattle.link.proofs.Tests.{if-so}
 use Rattle.link.proofs.ReceiverBounds.{bounds, Ready, receive-flag, receive-other, first-octet, other-passes, receive-ready}
 use Rattle.link.proofs.ReceiverCases.{remembered}
-use Rattle.link.proofs.ReadOn.{receiver-ready, ready-of, skips}
+use Rattle.link.proofs.ReadOn.{receiver-ready, ready-of, skips, first-stays, second-stays}
 use Rattle.link.proofs.Resumed.{D1-is}
 use Rattle.link.proofs.AreasAside.{areas-aside}
-use Rattle.link.proofs.EachCall.{same-first, same-second, receives-so}
+use Rattle.link.proofs.EachCall.{receives-so}
 
 -- ---- a refused frame, up to and with its flag
 
@@ -52,7 +52,7 @@ module _ (g : Agreed) (e : ReceiverEnd) (z : Ready g e) (out : e .state .framed 
   becomes r = record { state = r; first = e .first; second = e .second }
 
   put-back-state : (r : Receiver) → putBack e (record { state = r; area = work e .area }) ≡ becomes r
-  put-back-state r = rw (same-first (s .turn) (e .first) (e .second), same-second (s .turn) (e .first) (e .second))
+  put-back-state r = rw (first-stays (s .turn) (e .first) (e .second), second-stays (s .turn) (e .first) (e .second))
 
   -- FF
   FF-is : receive e 0xFF ≡ record { report = quiet; after = becomes (step4Remember 5 false (restarted e .state)) }
@@ -163,6 +163,7 @@ five-and-held r n five some =
 pub restart : Restart
 restart =
     record {
+      atOnce = λ e a out. FF-is (agreed (e .state .settings)) e (ready-of e a) out;
       frame = λ e a out. restart-frame (agreed (e .state .settings)) e (ready-of e a) out;
       forgets = forgets-in;
       untilHeld = until-held;

@@ -16,7 +16,7 @@ use Rattle.cobs.proofs.Table.{Row, row-read}
 use Rattle.link.specs.Agreed.{Agreed, leastFrame, mostDecoded}
 use Rattle.link.specs.Receiver.{Fragment, nothingHeld, holds, Receiver, Working, ReceiverEnd, Ended, isNoBlock, isD0, step4Refuse, step3Decode, step3Data, step2ByMeaning, step2Code, step1ResumeHeld, step1D1, step1FirstOctet, steps1To4, step5WithoutPhantom, step5Flag, atFlag, work, receive}
 use Rattle.link.proofs.Tests.{if-so, if-not, true-false}
-use Rattle.link.proofs.ReceiverBounds.{Ready, receive-flag, by-end}
+use Rattle.link.proofs.ReceiverBounds.{Ready, receive-flag, first-octet, by-end}
 use Rattle.link.proofs.Follow.{code-is}
 
 -- in a resumed frame, with n data octets left in the block unless a refusal is remembered
@@ -103,8 +103,8 @@ module _ (g : Agreed) (e : ReceiverEnd) (z : Ready g e) where
   resume-in-step (holds n) = record { framed·is = refl; resumed·is = refl; left·is = λ _. refl }
 
   pub D1-is : s .framed ≡ false → steps1To4 g (work e) 0xD1 ≡ record { state = step1D1 g s; area = work e .area }
-  unfolding steps1To4 step1FirstOctet
-  D1-is out = if-not _ _ _ (ap not (eq-eqb (s .refusal) 0 (z .bounds .out out .refusal·0))) ∙ if-so _ _ _ (ap not out)
+  unfolding step1FirstOctet
+  D1-is out = first-octet g (work e) 0xD1 (z .bounds) out
 
   pub D1-in-step : s .framed ≡ false → InStep 0 (steps1To4 g (work e) 0xD1 .state)
   unfolding step1D1

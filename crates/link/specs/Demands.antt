@@ -7,7 +7,7 @@ use Prim.Native.Nat.{ℕ, _+_, _/_, _≤_}
 use lib.ListN.{length, take, replicate}
 use Rattle.cobs.specs.CodeBlocks.{frame, withPhantom, flag, Block, AllAllowed, decodedOctets, lineOctets}
 use Rattle.link.specs.Agreed.{Settings, agreed, valid, leastPacket, largestFrame, mostDecoded}
-use Rattle.link.specs.Answers.{Answer, octet, idle, held, refused}
+use Rattle.link.specs.Answers.{Answer, octet, idle, quiet, held, refused}
 use Rattle.link.specs.Sender.{Lane, low, high, Sender, SenderEnd, outAnswer, load, next}
 use Rattle.link.specs.Sender as sender
 use Rattle.link.specs.Receiver.{Fragment, nothingHeld, holds, Receiver, ReceiverEnd, Receive, areaOf, receive}
@@ -189,6 +189,8 @@ abbrev pub restarted : ReceiverEnd → ReceiverEnd
 restarted e = record { state = receiver.outOfFrame (e .state .settings) (e .state .turn) nothingHeld; first = e .first; second = e .second }
 
 -- e: any receiver that is out of a frame, in bounds and with areas long enough, whatever it holds
+--   atOnce: the FF is Quiet. From it on 5 is remembered and nothing is held; all else is as opened, but for the turn of the areas, and no octet
+--   of them is written
 --   frame: whatever the frame has behind its FF, its flag reports 5, and the receiver is as opened, but for the turn of the areas
 --   forgets: after the FF, whatever comes, the reports, and the packets that they stand for, are those of any receiver f with the same settings
 --   and turn that held nothing, whatever either has in its areas. So no fragment from before a restart is joined to anything after it
@@ -196,6 +198,9 @@ restarted e = record { state = receiver.outOfFrame (e .state .settings) (e .stat
 --   noneToResume: and while nothing is held, a frame that begins D1 is refused 8, where PRE is on
 --   bounds: 5 is not remembered with something held
 pub record Restart : Type 0 where
+  pub atOnce : (e : ReceiverEnd) → ReceiverReady e → e .state .framed ≡ false
+      → receive e 0xFF
+      ≡ record { report = quiet; after = record { state = receiver.inFrame receiver.noBlock false 5 (restarted e .state); first = e .first; second = e .second } }
   pub frame : (e : ReceiverEnd) → ReceiverReady e → e .state .framed ≡ false → (rest : List ℕ) → (List·Memᴰ flag rest → ⊥)
       → receive (received e (0xFF ∷ rest)) flag ≡ record { report = refused 5; after = restarted e }
   pub forgets : (e f : ReceiverEnd) → ReceiverReady e → ReceiverReady f → e .state .framed ≡ false

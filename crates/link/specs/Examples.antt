@@ -405,6 +405,10 @@ frameExamples =
     ∷ decodes (framed otherBlock false 0 2040 0 0) 0xDB 2051 0
     ∷ decodes (framed otherBlock false 0 2040 0 0) 0xDC 2040 10
     ∷ decodes (framed otherBlock false 0 2050 1 1) 0x31 2051 10
+    -- nor is an octet that is refused 6, 7 or 8
+    ∷ decodes (openedReceiver (bits16 0x00)) 0xE0 0 6
+    ∷ decodes (framed otherBlock false 0 3 0 0) 0xD2 3 7
+    ∷ decodes (openedReceiver (bits16 0x03)) 0xD1 0 8
     ∷ []
 
 -- what is held after a frame
