@@ -101,6 +101,7 @@ const ENDS_IN_BLOCK: u8 = 11;
 const LAST_FULL: u8 = 12;
 const TOO_LITTLE: u8 = 13;
 const BAD_FCS: u8 = 14;
+const HELD_CHANGED: u8 = 21;
 
 #[derive(Clone, Copy)]
 enum Report {
@@ -250,7 +251,12 @@ impl Frame {
         match self.held.take() {
             None => self.refuse(cursor, NOTHING_HELD),
             Some((count, register)) => {
-                self.base = RECEIVE_AREA - self.base;
+                let base = RECEIVE_AREA - self.base;
+                let octets = &self.areas.as_flattened()[base..][..count];
+                if octets.iter().fold(FCS_START, |r, &octet| fcs_step(r, octet)) != register {
+                    return self.refuse(cursor, HELD_CHANGED);
+                }
+                self.base = base;
                 self.phase = Phase::Resumed;
                 let place = self.base + count;
                 Cursor {

@@ -61,8 +61,8 @@ static inline unsigned kuta_mark(uint32_t answer) { return (unsigned)(answer >> 
 static inline unsigned kuta_value(uint32_t answer) { return (unsigned)(answer & 0xFFFF); }
 
 /* Refusals. 1 to 4 and 23 refuse a call, which has then changed no octet of its state and of its areas. An opening tests the limit, 23,
- * and then the width, 3. Any other call tests width and limit first, 3; then the rest in the order 2, 3, 4, 1. 5 to 14 are what the receiver
- * reports of a frame that brings no packet; the call itself was taken. */
+ * and then the width, 3. Any other call tests width and limit first, 3; then the rest in the order 2, 3, 4, 1. 5 to 14 and 21 are what the
+ * receiver reports of a frame that brings no packet; the call itself was taken. */
 enum kuta_refusals {
     KUTA_BAD_LENGTH = 1,      /* load: a packet of fewer than 2 octets, or more than the limit */
     KUTA_SHORT_AREA = 2,      /* an area is shorter than its least length, for the state's width and limit */
@@ -79,13 +79,15 @@ enum kuta_refusals {
     KUTA_UNFINISHED = 12,     /* it ends behind a block D0, which another must follow */
     KUTA_TOO_SHORT = 13,      /* fewer octets than a packet and its FCS */
     KUTA_BAD_CHECK = 14,      /* the FCS is wrong */
+    KUTA_AREA_CHANGED = 21,   /* it resumes a packet, and the octets held of it are not those that came; nothing is held from its D1 on */
     KUTA_BAD_LIMIT = 23       /* an opening: the limit is not from 2 to KUTA_LARGEST_LIMIT */
 };
 
 /* ---- The receiver
  *
  * It is lent two areas, the same two at every call: one takes in what comes, the other holds what is kept of a packet that was broken off.
- * Between calls nobody else writes to them. */
+ * Between calls nobody else writes to them. A write to octets that are held is found out when they are to be resumed, by their check
+ * register (refusal 21; most writes, not all); any other write is not. */
 
 /* Opens a receiver, whatever the state held before. Answers KUTA_DONE. Refused 23: the limit is out of range. Refused 3: the width is
  * neither 16 nor 32. Refused, the state stays. (Of larger numbers C hands over the low bits: test them before.) */
@@ -93,7 +95,7 @@ uint32_t kuta_receiver_open(uint8_t state[KUTA_STATE], uint8_t settings, uint8_t
 
 /* Takes the next octet of the line. Answers KUTA_QUIET, KUTA_PACKET, KUTA_HELD or KUTA_REFUSED.
  * A packet stays where it is until the next call of this receiver.
- * Refused 2: first or second has fewer than KUTA_RECEIVER_AREA(width, limit) octets. Refused 3. Refused 5 to 14: reports of a frame. */
+ * Refused 2: first or second has fewer than KUTA_RECEIVER_AREA(width, limit) octets. Refused 3. Refused 5 to 14 and 21: reports of a frame. */
 uint32_t kuta_receive(uint8_t state[KUTA_STATE], uint8_t octet, uint8_t *first, size_t first_length, uint8_t *second, size_t second_length);
 
 /* How far a stretch of a line was read or written. */

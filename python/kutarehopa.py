@@ -158,6 +158,7 @@ _REASONS = {
     12: "the frame ends with D0, a block that is never the last",
     13: "the frame is shorter than the shortest packet makes it",
     14: "the check sequence is wrong",
+    21: "the rest of a packet came, and what was held of it has been changed meanwhile",
 }
 
 
@@ -201,7 +202,7 @@ class Held(Report):
 
 @dataclass(frozen=True)
 class Refused(Report):
-    """A frame was refused: by which number, 5 to 14, and for what reason."""
+    """A frame was refused: by which number, 5 to 14 or 21, and for what reason."""
     number: int
     place: int
 
@@ -439,12 +440,12 @@ def _of_file(receiver, file):
 
 
 def tally(of: Iterable[Report]) -> Dict[str, int]:
-    """The thirteen counts that the program count prints, by their names and in its order.
+    """The fourteen counts that the program count prints, by their names and in its order.
 
     Each report raises one of them, so their sum is the number of frames. To count several captures together, chain
     their reports.
     """
-    counts = dict.fromkeys(["packets", "held", "held-replaced", *(f"refused-{number}" for number in range(5, 15))], 0)
+    counts = dict.fromkeys(["packets", "held", "held-replaced", *(f"refused-{number}" for number in (*range(5, 15), 21))], 0)
     for report in of:
         if not isinstance(report, Report):
             raise TypeError(f"tally counts reports, not {type(report).__name__}: tally(reports(capture))")

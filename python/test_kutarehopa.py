@@ -186,8 +186,27 @@ class Receiving(unittest.TestCase):
         other = octets.replace(b"\xff\x03", b"\xd2")
         self.assertEqual(Receiver().feed(other), [Held(1, False, 2), Refused(7, 4), Refused(13, 7)])
 
+    def test_changed_area(self):
+        """What was saved and is changed before it is restored: a held octet is found out, one behind them does not matter."""
+        for width, register in ((16, 0x4D53), (32, 0xB0ACBB32)):
+            receiver = Receiver(width=width)
+            self.assertEqual(receiver.feed(b"\x05\x31\x32\x7e"), [Held(2, False, 3)])
+            self.assertEqual(int.from_bytes(receiver.state[16:20], "little"), register)
+            saved, first = receiver.save(), 64 + 8
+            self.assertEqual(saved[first:first + 3], b"\x31\x32\x00")
+            for at, changed, report in ((0, False, 13), (0, True, 21), (1, True, 21), (2, True, 13)):
+                octets = bytearray(saved)
+                octets[first + at] ^= changed
+                restored = Receiver.restore(bytes(octets))
+                self.assertEqual(restored.feed(b"\xd1\x01\x7e\xd1\x7e"), [Refused(report, 6), Refused(8, 8)])
+                self.assertEqual(restored.state[16:20], Receiver(width=width).state[16:20])
+            octets = bytearray(saved)
+            octets[13:16] = 0, 0, 0  # nothing held, and its register not at the start
+            with self.assertRaises(RefusedCall):
+                Receiver.restore(bytes(octets))
+
     def test_reasons(self):
-        for number in range(5, 15):
+        for number in (*range(5, 15), 21):
             self.assertGreater(len(Refused(number, 0).reason), 10)
 
     def test_reports_do_not_change(self):
@@ -250,7 +269,7 @@ class Receiving(unittest.TestCase):
 
 class Tallying(unittest.TestCase):
     def test_names(self):
-        names = ["packets", "held", "held-replaced"] + [f"refused-{number}" for number in range(5, 15)]
+        names = ["packets", "held", "held-replaced"] + [f"refused-{number}" for number in (*range(5, 15), 21)]
         self.assertEqual(list(kuta.tally([])), names)
 
     def test_counts(self):

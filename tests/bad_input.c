@@ -113,9 +113,12 @@ static uint32_t register_over(unsigned width, uint32_t start, const uint8_t *oct
     return start;
 }
 
+/* Every bit set; of any width but 32, the 16 low ones. */
+static uint32_t register_start(unsigned width) { return width == 32 ? 0xFFFFFFFF : 0xFFFF; }
+
 /* Whether a frame's FCS fits. */
 static int is_good(unsigned width, const uint8_t *frame, size_t length) {
-    return width == 16 ? register_over(16, 0xFFFF, frame, length) == 0xF0B8 : register_over(32, 0xFFFFFFFF, frame, length) == 0xDEBB20E3;
+    return register_over(width, register_start(width), frame, length) == (width == 16 ? 0xF0B8 : 0xDEBB20E3);
 }
 
 /* ---- States, by docs/READING.md ("In bounds") and the layout */
@@ -127,18 +130,30 @@ static void put_number(uint8_t *place, unsigned number) {
     place[1] = (uint8_t)(number >> 8);
 }
 
+static uint32_t long_at(const uint8_t *place) { return number_at(place) | (uint32_t)number_at(place + 2) << 16; }
+
+static void put_long(uint8_t *place, uint32_t number) {
+    put_number(place, number & 0xFFFF);
+    put_number(place + 2, number >> 16);
+}
+
 static unsigned limit_of(const uint8_t *state) { return number_at(state + 2); }
 
 static int is_valid(const uint8_t *state) { return is_width(state[1]) && is_limit(limit_of(state)); }
 
-static int receiver_spelled(const uint8_t *s) { return s[0] == 1 && s[10] <= 1 && s[13] <= 1 && s[22] <= 2 && s[23] <= 1 && s[24] <= 1; }
+/* Where nothing is held the register is at its start. */
+static int receiver_spelled(const uint8_t *s) {
+    if (s[0] != 1 || s[10] > 1 || s[13] > 1 || s[22] > 2 || s[23] > 1 || s[24] > 1) return 0;
+    return s[13] == 1 || long_at(s + 16) == register_start(s[1]);
+}
 
 static int receiver_in_bounds(const uint8_t *s) {
     const unsigned decoded = number_at(s + 11), left = s[20], zeros = s[21], last = s[22], resumed = s[24], refusal = s[25];
     const unsigned most = most_decoded(s[1], limit_of(s));
     const int in_frame = s[23] == 1, held = s[13] == 1;
     if (decoded > most || (held && number_at(s + 14) > most) || left > 207 || zeros > 2) return 0;
-    if (refusal != 0 && (refusal < KUTA_PLAIN_FRAME || refusal > KUTA_TOO_LONG)) return 0;
+    if (held && long_at(s + 16) > register_start(s[1])) return 0;
+    if (refusal != 0 && refusal != KUTA_AREA_CHANGED && (refusal < KUTA_PLAIN_FRAME || refusal > KUTA_TOO_LONG)) return 0;
     if (refusal == KUTA_PLAIN_FRAME && held) return 0;
     if (!in_frame) return decoded == 0 && left == 0 && zeros == 0 && last == 0 && resumed == 0 && refusal == 0;
     if (refusal != 0) return 1;
@@ -285,7 +300,7 @@ static int is_answer_of(enum call call, uint32_t answer) {
     case RECEIVE:
     case READ_ON:
         return answer == KUTA_QUIET || kind == KUTA_PACKET || kind == KUTA_HELD ||
-               (kind == KUTA_REFUSED && value >= KUTA_PLAIN_FRAME && value <= KUTA_BAD_CHECK);
+               (kind == KUTA_REFUSED && ((value >= KUTA_PLAIN_FRAME && value <= KUTA_BAD_CHECK) || value == KUTA_AREA_CHANGED));
     case LOAD_LOW:
     case LOAD_HIGH: return answer == (uint32_t)KUTA_DONE << 24;
     case NEXT:
@@ -307,8 +322,25 @@ static int holds_rightly(const uint8_t *was, const uint8_t *is, uint8_t octet) {
     const int begins = was[23] == 0;
     if (octet == FLAG) return 1;
     if (was[13] == 0 || (begins && (octet == 0xFF || (octet == 0xD1 && (was[4] & KUTA_PRE))))) return is[13] == 0;
-    return memcmp(is + 13, was + 13, 3) == 0;
+    return memcmp(is + 13, was + 13, 7) == 0;
 }
+
+/* The register over what is held, in the area that does not work. */
+static uint32_t register_held(const uint8_t *state, const struct memory *m) {
+    return register_over(state[1], register_start(state[1]), (state[10] == 1 ? m->one : m->other) + GUARD, number_at(state + 14));
+}
+
+/* A D1 that begins a frame, with preemption on and something held: the held area works from then on, if its octets give the register that
+ * is carried; else the frame is refused 21, and the areas do not change turns. */
+static int resumes_rightly(const uint8_t *was, const uint8_t *is, const struct memory *m, uint8_t octet) {
+    if (octet != 0xD1 || was[23] == 1 || was[13] == 0 || !(was[4] & KUTA_PRE)) return 1;
+    if (is[23] != 1 || is[24] != 1) return 0;
+    if (long_at(was + 16) == register_held(was, m)) return is[25] == 0 && is[10] != was[10] && number_at(is + 11) == number_at(was + 14);
+    return is[25] == KUTA_AREA_CHANGED && is[10] == was[10] && number_at(is + 11) == 0;
+}
+
+/* After Held, the register that is carried is the one of what is held. */
+static int carries_rightly(const uint8_t *is, const struct memory *m) { return is[13] == 1 && long_at(is + 16) == register_held(is, m); }
 
 /* A call that was not refused. */
 static void check_taken(enum call call, const struct memory *m, struct lengths n, kuta_stretch got) {
@@ -321,6 +353,8 @@ static void check_taken(enum call call, const struct memory *m, struct lengths n
     if (call == LOAD_LOW) check(has_frame(width, m->one + GUARD, m->line + GUARD, n.line), "the frame is loaded", name, n);
     if (call == LOAD_HIGH) check(has_frame(width, m->other + GUARD, m->line + GUARD, n.line), "the frame is loaded", name, n);
     if (call == RECEIVE) check(holds_rightly(before.state + GUARD, m->state + GUARD, m->line[GUARD]), "what is held", name, n);
+    if (call == RECEIVE) check(resumes_rightly(before.state + GUARD, m->state + GUARD, m, m->line[GUARD]), "what is resumed", name, n);
+    if (kuta_kind(got.answer) == KUTA_HELD) check(carries_rightly(m->state + GUARD, m), "the register of what is held", name, n);
     if (kuta_kind(got.answer) == KUTA_PACKET) check(is_delivered(m, got.answer), "a packet and its FCS", name, n);
     if (kuta_kind(got.answer) == KUTA_IDLE) check(same(m, &before, n), "Idle changes nothing", name, n);
 }
@@ -383,6 +417,7 @@ static void try_open(enum end end, struct memory *m, uint8_t width, uint16_t lim
     if (refusal == 0) {
         memset(expected.state + GUARD, 0, end == RECEIVER ? RECEIVER_OCTETS : SENDER_OCTETS);
         memcpy(expected.state + GUARD, head, sizeof head);
+        if (end == RECEIVER) put_long(expected.state + GUARD + 16, register_start(width));
         check(answer == (uint32_t)KUTA_DONE << 24, "it is done", name, none);
         check(same(m, &expected, none), "a fresh state", name, none);
     } else {
@@ -528,8 +563,8 @@ static void draw_state(uint8_t *s) {
     put_number(s + 2, draw_limit());
 }
 
-/* A receiver that may well stand; what it does not look at is anything. */
-static void draw_receiver(uint8_t *s) {
+/* All of a receiver's but its register. */
+static void draw_counts_and_marks(uint8_t *s) {
     const int in_frame = below(4) > 0;
     unsigned most;
     draw_state(s);
@@ -544,7 +579,22 @@ static void draw_receiver(uint8_t *s) {
     s[22] = (uint8_t)below(3);
     s[23] = 1;
     s[24] = (uint8_t)below(2);
-    s[25] = (uint8_t)(below(4) == 0 ? 4 + below(8) : 0);
+    s[25] = (uint8_t)(below(4) == 0 ? 4 + below(8) : below(12) == 0 ? 20 + below(3) : 0);
+}
+
+/* Its register: in most states the one that is due, where something is held that of its octets; else another of the width, or a wider. */
+static void draw_register(struct memory *m) {
+    uint8_t *const s = m->state + GUARD;
+    const unsigned most = is_valid(s) ? most_decoded(s[1], limit_of(s)) : 0;
+    const uint32_t due = s[13] == 1 && number_at(s + 14) <= most ? register_held(s, m) : register_start(s[1]);
+    const unsigned drawn = below(8);
+    put_long(s + 16, drawn < 5 ? due : drawn < 6 ? draw() & register_start(s[1]) : drawn < 7 ? due + 1 : draw());
+}
+
+/* A receiver that may well stand; what it does not look at is anything. */
+static void draw_receiver(struct memory *m) {
+    draw_counts_and_marks(m->state + GUARD);
+    draw_register(m);
 }
 
 /* The length of a loaded lane. */
@@ -581,7 +631,7 @@ static void try_drawn_states(enum end end, struct memory *m, unsigned long count
         else draw_line(m, 24);
         if (i % 8 == 0) draw_state(state);
         else if (i % 8 == 4) draw_octets(state, KUTA_STATE);
-        else if (end == RECEIVER) draw_receiver(state);
+        else if (end == RECEIVER) draw_receiver(m);
         else draw_sender(state);
         if (i % 8 == 1) state[below(KUTA_STATE)] = (uint8_t)below(256);
         try_state_once(end, m);

@@ -113,6 +113,8 @@ static const struct field receiver_fields[] = {
     {25, 1, 256},             /* remembered refusal */
     {1, 1, 256},              /* width */
     {2, 2, 65536},            /* limit */
+    {16, 2, 65536},           /* register, low half */
+    {18, 2, 65536},           /* register, high half */
 };
 
 static void put_number(uint8_t *place, unsigned long number) {
@@ -161,7 +163,7 @@ static void print_state(char letter, const uint8_t *state, const struct field *f
 
 /* The operands of a command: its octet and number operands in their order, and the octets of the one that is `octets n`. */
 struct operands {
-    unsigned numbers[12];
+    unsigned numbers[14];
     uint8_t octets[65535];
     size_t length;
 };
@@ -243,7 +245,7 @@ static const struct command commands[] = {
     {'A', "2", lend_out},
     {'f', "12n", fill},
     {'s', "222222222222", hand_sender},
-    {'t', "222222222222", hand_receiver},
+    {'t', "22222222222222", hand_receiver},
     {'d', "", show_states},
     {'x', "122", show},
 };

@@ -31,7 +31,7 @@ static struct {
     unsigned loaded[LANES], unaltered[LANES];
     unsigned never_sent; /* delivered, and yet no packet that was sent, or one that had come before */
     unsigned held, given_up;
-    unsigned refused[KUTA_BAD_CHECK + 1]; /* by number */
+    unsigned refused[KUTA_AREA_CHANGED + 1]; /* by number */
     unsigned long octets, flipped, dropped;
 } tally;
 
@@ -163,7 +163,7 @@ static void run(unsigned rate) {
 
 static unsigned frames_refused(void) {
     unsigned number, sum = 0;
-    for (number = KUTA_PLAIN_FRAME; number <= KUTA_BAD_CHECK; number++) sum += tally.refused[number];
+    for (number = KUTA_PLAIN_FRAME; number <= KUTA_AREA_CHANGED; number++) sum += tally.refused[number];
     return sum;
 }
 
@@ -175,7 +175,7 @@ static void print_tally(void) {
     printf("delivered, but never sent: %u\n", tally.never_sent);
     printf("fragments held: %u, older ones given up for them: %u\n", tally.held, tally.given_up);
     printf("frames refused: %u\n", frames_refused());
-    for (number = KUTA_PLAIN_FRAME; number <= KUTA_BAD_CHECK; number++)
+    for (number = KUTA_PLAIN_FRAME; number <= KUTA_AREA_CHANGED; number++)
         if (tally.refused[number] > 0) printf("  number %u: %u\n", number, tally.refused[number]);
 }
 

@@ -8,8 +8,9 @@ each must be that of `model capture|count|exercise`, octet for octet, on random 
 Exits 0 when nothing differs, 1 at the first difference (input and both outputs are saved) or when a
 run of full size did not see every answer of every call, at 16 bits and at 32, with limits of 2 to 20,
 2,048 and 16,384, what a wrong width and a limit out of range are answered, restarts with something
-held, and every area shown inside, to its end and beyond it; 2 when a program is missing. All three
-programs must end with status 0, also after `E`.
+held, registers of what is held that are right, wrong and out of bounds, areas changed before a D1,
+and every area shown inside, to its end and beyond it; 2 when a program is missing. All three programs
+must end with status 0, also after `E`.
 """
 import argparse
 import collections
@@ -125,6 +126,11 @@ class Agreed(collections.namedtuple("Agreed", "width limit")):
         """Lengths of low, high, first and second that are exactly long enough."""
         return self.longest, self.longest, self.most, self.most
 
+    @property
+    def start(self):
+        """The register's start value, and its largest; for a wrong width that of 16 bits, since nothing asks."""
+        return 2 ** 32 - 1 if self.width % 256 == 32 else 2 ** 16 - 1
+
     def with_other_width(self):
         return self._replace(width=48 - self.width)
 
@@ -206,13 +212,22 @@ SHIFTED = {width: [bit_by_bit(low, polynomial) for low in range(256)]
            for width, polynomial in ((16, 0x8408), (32, 0xEDB88320))}
 
 
+def register_over(octets, width=16):
+    """The check register over octets, from its start value, without complement."""
+    register, shifted = 2 ** width - 1, SHIFTED[width]
+    for octet in octets:
+        register = register >> 8 ^ shifted[register & 255 ^ octet]
+    return register
+
+
 def fcs(packet, width=16):
     """RFC 1662's FCS, low octet first."""
-    register = start = 2 ** width - 1
-    shifted = SHIFTED[width]
-    for octet in packet:
-        register = register >> 8 ^ shifted[register & 255 ^ octet]
-    return (register ^ start).to_bytes(width // 8, "little")
+    return (register_over(packet, width) ^ 2 ** width - 1).to_bytes(width // 8, "little")
+
+
+def halves(register):
+    """A register as the two numbers of a receiver state, low half first."""
+    return register & 0xFFFF, register >> 16
 
 
 # ------------------------------------------------------------------------------------------------
@@ -567,7 +582,8 @@ EDGES = (0, 1, 2, 3, 4, 5, 6, 7, 8, 10, 11, 206, 207, 208, 255, 256, 257, 258, *
 WRONG_WIDTHS = (0, 1, 8, 15, 17, 24, 31, 33, 48, 64, 255)
 LIMITS_BELOW, LIMITS_ABOVE = (0, 1), (16385, 16386, 16640, 18432, 32768, 32770, 65534, 65535)
 SMALL = range(2, 21)  # limits whose edges cost few octets
-WIDTH, LIMIT = 10, 11  # their places among the numbers of a state
+WIDTH, LIMIT, REGISTER = 10, 11, 12  # their places among the numbers of a state; a receiver's register is its last two
+REMEMBERED_GOOD = (*range(5, 11), 21)  # refusals that may be remembered
 PLACES = (0, 1, 2040, 2051, 4095, 4096, 16380, 16389, 20470, 20478, 20479, 20480, 20481, 40950, 40958, 40959, 40960, 40961,
           65534, 65535)
 
@@ -675,33 +691,52 @@ def sender_state(rng, agreed):
     return [settings(rng), *low, *high, left, zeros, line, suspended, cut_due, *agreed]
 
 
+def some_register(rng, agreed, held):
+    """A register in bounds: the start value with nothing held, else any of the width."""
+    start = agreed.start
+    some = rng.randint(0, start)
+    return rng.choice((0, 1, start - 1, start, 0xFFFF, 0xFFFE, some, some)) if held else start
+
+
 def receiver_state(rng, agreed):
-    """The twelve numbers of a receiver state in bounds."""
+    """The fourteen numbers of a receiver state in bounds; of something held the register is seldom right."""
     most = agreed.most
     held = min(most + 1, rng.choice((0, 0, 1, 2, 6, most - 1, most, most + 1, rng.randint(0, most + 1))))
     turn = rng.randrange(2)
     if rng.random() < 0.25:
-        return [settings(rng), turn, 0, held, 0, 0, 0, 0, 0, 0, *agreed]
+        return [settings(rng), turn, 0, held, 0, 0, 0, 0, 0, 0, *agreed, *halves(some_register(rng, agreed, held))]
     decoded = within(0, rng.choice((0, 0, 0, 1, 2, 4, 5, 6, 7, most - 8, *range(most - 3, most + 1), rng.randint(0, most))),
                      most)
     left = rng.choice((0, 0, 0, 0, 1, 1, 2, 206, 207, rng.randint(0, 207)))
     zeros, last, resumed = rng.randrange(3), rng.randrange(3), rng.randrange(2)
-    refusal = rng.choice((0, 0, 0, 0, rng.randint(5, 10)))
+    refusal = rng.choice((0, 0, 0, 0, rng.choice(REMEMBERED_GOOD)))
     if refusal == 5:
         held = 0
     if refusal == 0 and last == 0:
         resumed = 1
     if refusal == 0 and last == 2 and left == 0 and decoded == 0:
         decoded = 1
-    return [settings(rng), turn, decoded, held, left, zeros, last, 1, resumed, refusal, *agreed]
+    return [settings(rng), turn, decoded, held, left, zeros, last, 1, resumed, refusal, *agreed,
+            *halves(some_register(rng, agreed, held))]
 
 
-def restarted_state(rng, agreed):
-    """A receiver that has 5 remembered: in bounds with nothing held, else out of bounds by that alone."""
+def remembering_state(rng, agreed, refusal):
+    """A receiver that has this refusal remembered, and something held or nothing: with 5 in bounds only if nothing is."""
     most = agreed.most
-    held = rng.choice((0, 1, 2, most + 1, rng.randint(1, most + 1)))
+    held = rng.choice((0, 0, 1, 2, most + 1, rng.randint(1, most + 1)))
     return [settings(rng), rng.randrange(2), rng.choice((0, 0, most, rng.randint(0, most))), held, rng.choice((0, 0, 207)),
-            rng.randrange(3), rng.randrange(3), 1, rng.randrange(2), 5, *agreed]
+            rng.randrange(3), rng.randrange(3), 1, rng.randrange(2), refusal, *agreed,
+            *halves(some_register(rng, agreed, held))]
+
+
+def wrong_register(rng, agreed, held):
+    """A register out of bounds: beyond 16 bits with something held (at 32 there is none), not at its start with nothing."""
+    if held:
+        return rng.choice((0x10000, 0x1FFFF, 0x80000000, 0xFFFF0000, 0xFFFFFFFF, rng.randint(0x10000, 0xFFFFFFFF)))
+    start = agreed.start
+    registers = (0, start - 1, start >> 1, start ^ 0x100, 0xFFFF, 0x10000, 0x1FFFF, 0xFFFF0000, 0xFFFFFFFF,
+                 rng.getrandbits(16), rng.getrandbits(32))
+    return rng.choice([register for register in registers if register != start])
 
 
 def just_beyond(rng, agreed):
@@ -731,7 +766,7 @@ def receiver_at_edges(rng, agreed):
     held = rng.choice((0, 0, 0, *range(agreed.limit + 3, agreed.limit + 9)))
     left, zeros = rng.choice(((0, 0), (0, 0), (0, 0), (1, 0), (1, 1), (1, 2), (2, 1)))
     return [settings(rng), rng.randrange(2), decoded, held, left, zeros, rng.choice((1, 2, 2, 2)), 1, rng.randrange(2), 0,
-            *agreed]
+            *agreed, *halves(some_register(rng, agreed, held))]
 
 
 def disturbed(rng, state):
@@ -740,7 +775,7 @@ def disturbed(rng, state):
         return state
     state = list(state)
     for _ in range(rng.choice((1, 1, 1, 2, 4))):
-        at = rng.randrange(12)
+        at = rng.randrange(len(state))
         state[at] = (width_number(rng) if at == WIDTH else limit_number(rng, state[at]) if at == LIMIT else
                      edge(rng, state[at]))
     return state
@@ -799,6 +834,16 @@ def encoded(frame, runs=True):
     return b"".join(out).replace(FLAG, b"\0")
 
 
+def fragment(data):
+    """Octets without zeros as the beginning of a frame that ends inside a block, without its flag."""
+    full = len(data) // 207 * 207
+    blocks = [b"\xd0" + data[at:at + 207] for at in range(0, full, 207)]
+    rest = data[full:]
+    if len(rest) > 200:  # a code that has more data to come
+        return b"".join((*blocks, b"\xd0", rest)).replace(FLAG, b"\0")
+    return b"".join((*blocks, bytes((len(rest) + 2,)), rest)).replace(FLAG, b"\0")
+
+
 def line_octets(rng, agreed):
     """Octets for the receiver, meaningful ones most."""
     kind = rng.random()
@@ -844,7 +889,16 @@ def words(agreed):
 
 # Words for calls about a restart, and the answers: a state handed in, the flag of an FF frame, that of a D1 frame.
 REMEMBERED, LET_GO, AFTER_THAT = "5 remembered with something held", "FF with something held", "D1 after that FF"
-RESTARTED = {REMEMBERED: "R 3", LET_GO: "R 5", AFTER_THAT: "R 8"}
+# The same about the register of what is held: states handed in; flags of D1 frames after a change, or with a wrong register.
+NOT_START, BEYOND = "nothing held, register not at its start", "something held, register beyond 16 bits"
+NONE_21, SOME_21 = "21 remembered with nothing held", "21 remembered with something held"
+CHANGED, AFTER_CHANGE = "held octet changed, then D1", "D1 after that one"
+BEHIND, WORK = "octets behind the held ones changed, then D1 alone", "work area changed, then D1 alone"
+NOT_OF_HELD, OF_NO_OCTETS = "register not that of the held octets, D1", "no octets held, register not at its start, D1"
+NO_PRE = "register not that of the held octets, no PRE, D1"
+TOLD = {REMEMBERED: "R 3", LET_GO: "R 5", AFTER_THAT: "R 8", NOT_START: "R 3", BEYOND: "R 3", NONE_21: "R 21",
+        SOME_21: "R 21", CHANGED: "R 21", AFTER_CHANGE: "R 8", BEHIND: "R 9", WORK: "R 9", NOT_OF_HELD: "R 21",
+        OF_NO_OCTETS: "R 21", NO_PRE: "R 6"}
 
 
 class Script:
@@ -963,9 +1017,19 @@ def add_sender_state(rng, script, agreed):
     add_sends(rng, script, agreed)
 
 
+def with_held(rng, script, state):
+    """Mostly puts octets where a state holds some, and gives it their register."""
+    if state[3] == 0 or rng.random() < 0.3:
+        return state
+    held = packet(rng, state[3] - 1)
+    script.add(fill(3 - state[1], 0, held))
+    return [*state[:REGISTER], *halves(register_over(held, state[WIDTH]))]
+
+
 def add_receiver_state(rng, script, agreed):
     agreed = other_agreed(rng, agreed)
-    state = receiver_at_edges(rng, agreed) if rng.random() < 0.2 else disturbed(rng, receiver_state(rng, agreed))
+    state = (receiver_at_edges(rng, agreed) if rng.random() < 0.2 else
+             disturbed(rng, with_held(rng, script, receiver_state(rng, agreed))))
     script.hand("receiver", state)
     if rng.random() < 0.15:
         script.add(fill(2 + rng.randrange(2), rng.choice((0, 0, agreed.limit - 2)), area_octets(rng, agreed)))
@@ -977,11 +1041,86 @@ def add_receiver_state(rng, script, agreed):
 def add_restarted_state(rng, script, agreed):
     """5 remembered in a state handed in, with something held or nothing."""
     agreed = other_agreed(rng, agreed)
-    state = restarted_state(rng, agreed)
+    state = remembering_state(rng, agreed, 5)
     script.hand("receiver", state)
     held = state[3] > 0 and not script.refused("receiver", (2, 3))
     script.receive(rng.choice((FLAG, b"\xff", b"\xd1", b"1")), f"{words(agreed)}, {REMEMBERED}" if held else None)
     script.receive(FLAG + line_octets(rng, agreed))
+
+
+def add_register_state(rng, script, agreed):
+    """A register out of bounds in a state that has all else in bounds; or 21 remembered."""
+    agreed = other_agreed(rng, agreed)
+    if rng.random() < 0.4:
+        state, octet = remembering_state(rng, agreed, 21), FLAG
+        about = SOME_21 if state[3] else NONE_21
+    else:
+        state, octet = receiver_state(rng, agreed), rng.choice((FLAG, FLAG, b"\xff", b"\xd1", b"1"))
+        if agreed.width == 32 or rng.random() < 0.4:
+            state[3] = 0
+        about = BEYOND if state[3] else NOT_START
+        state[REGISTER:] = halves(wrong_register(rng, agreed, state[3]))
+    script.hand("receiver", state)
+    script.receive(octet, None if script.refused("receiver", (2, 3)) else f"{words(agreed)}, {about}")
+    script.receive(FLAG + line_octets(rng, agreed))
+
+
+def frames_between(rng, agreed):
+    """Frames that leave what is held: delivered, refused, empty."""
+    data = zero_free(rng, 2)
+    return b"".join(rng.choice((encoded(data + fcs(data, agreed.width)), b"\xd2", b"\x01", b"", b"\x01\xff")) + FLAG
+                    for _ in range(rng.randrange(3)))
+
+
+def lend_for(script, agreed):
+    """Lends other areas where the receiver's are too short."""
+    if any(have < want for have, want in zip(script.lengths[2:], agreed.areas[2:])):
+        script.lend(agreed.areas)
+
+
+def add_changed_area(rng, script, agreed):
+    """A fragment is held, and then an area changes before the D1: one octet that is held, which the register always shows,
+    octets behind those, or the work area."""
+    lend_for(script, agreed)
+    most, turn = agreed.most, rng.randrange(2)
+    held = zero_free(rng, min(most, rng.choice((1, 2, 9, 40, 206, 207, most - 1, most, rng.randint(1, most)))))
+    script.hand("receiver", [rng.choice((2, 3, 3, 0xFE)), turn, *[0] * 8, *agreed, *halves(agreed.start)])
+    script.receive(fragment(held) + FLAG)
+    script.receive(frames_between(rng, agreed))
+    what, count = rng.choice((CHANGED, CHANGED, BEHIND, WORK)), len(held)
+    if what == CHANGED:
+        at = rng.choice((0, count - 1, rng.randrange(count)))
+        script.add(fill(2 + turn, at, bytes((held[at] ^ rng.randint(1, 255),))))
+    elif what == BEHIND:
+        script.add(fill(2 + turn, count + rng.choice((0, 0, rng.randrange(40))), rng.randbytes(rng.choice((1, 4, 40)))))
+    else:
+        script.add(fill(3 - turn, 0, rng.randbytes(rng.choice((1, 4, count, most)))))
+    script.receive(b"\xd1")
+    if what == CHANGED:
+        script.receive(rng.choice((b"", b"\x03\x37\x38", b"\xff", b"\xd1", zero_free(rng, 9).replace(FLAG, b"1"))))
+    script.receive(FLAG, f"{words(agreed)}, {what}")
+    if what == CHANGED and rng.random() < 0.5:
+        script.receive(b"\xd1" + rng.randbytes(rng.randrange(4)).replace(FLAG, b"1"))
+        script.receive(FLAG, f"{words(agreed)}, {AFTER_CHANGE}")
+    show_some(rng, script, 2 + rng.randrange(2), count)
+
+
+def add_wrong_register(rng, script, agreed):
+    """Octets held in a state handed in, and a register in bounds that is not theirs; PRE or not."""
+    lend_for(script, agreed)
+    bits, turn, most = settings(rng), rng.randrange(2), agreed.most
+    held = packet(rng, min(most, rng.choice((0, 0, 1, 2, 9, most, rng.randint(0, most)))))
+    width, right = agreed.width, register_over(held, agreed.width)
+    swapped = int.from_bytes(right.to_bytes(width // 8, "big"), "little")
+    wrong = rng.choice((right ^ 1 << rng.randrange(width), right ^ agreed.start, swapped, register_over(held + b"\0", width),
+                        agreed.start, some_register(rng, agreed, True)))
+    wrong ^= wrong == right
+    script.add(fill(3 - turn, 0, held))
+    script.hand("receiver", [bits, turn, 0, len(held) + 1, *[0] * 6, *agreed, *halves(wrong)])
+    script.receive(frames_between(rng, agreed))
+    script.receive(b"\xd1" + rng.choice((b"", b"\x03\x37\x38", b"\xff", b"\xd1", b"\x01")))
+    script.receive(FLAG, f"{words(agreed)}, " + (NO_PRE if not bits & 2 else NOT_OF_HELD if held else OF_NO_OCTETS))
+    script.receive(line_octets(rng, agreed))
 
 
 def add_decoded_frame(rng, script, agreed):
@@ -995,7 +1134,9 @@ def add_decoded_frame(rng, script, agreed):
     turn = rng.randrange(2)
     script.add(fill(2 + turn, 0, frame))
     held = rng.choice((0, 0, 1, 6, longest + 4, longest + 6))
-    state = [settings(rng), turn, len(frame), held, 0, 0, 2, 1, rng.randrange(2), 0, *agreed]
+    state = [settings(rng), turn, len(frame), held, 0, 0, 2, 1, rng.randrange(2), 0, *agreed,
+             *halves(some_register(rng, agreed, held))]
+    state = with_held(rng, script, state)
     if rng.random() < 0.3:
         state = disturbed(rng, state)
     script.hand("receiver", state)
@@ -1014,7 +1155,8 @@ def add_held_frame(rng, script, agreed):
     cut, turn = rng.randint(0, len(whole)), rng.randrange(2)
     script.add(fill(3 - turn, 0, whole[:cut]))
     bits = rng.choice((2, 3, 3, 1))
-    script.hand("receiver", [bits, turn, 0, cut + 1, 0, 0, 0, 0, 0, 0, *agreed])
+    register = register_over(whole[:cut], agreed.width)
+    script.hand("receiver", [bits, turn, 0, cut + 1, 0, 0, 0, 0, 0, 0, *agreed, *halves(register)])
     rest = b"\xd1" + encoded(whole[cut:]) + FLAG
     if rng.random() < 0.5:
         if script.refused("receiver", (2, 3)):
@@ -1092,8 +1234,9 @@ def add_wrong(rng, script, agreed):
     for end, make in (("sender", sender_state), ("receiver", receiver_state)):
         if rng.random() < 0.6:
             script.open(end, settings(rng), wrong_agreed(rng, agreed))
-        width, limit = wrong_agreed(rng, agreed)
-        script.hand(end, [*disturbed(rng, make(rng, agreed))[:WIDTH], width + 256 * rng.choice((0, 0, 1, 255)), limit])
+        (width, limit), state = wrong_agreed(rng, agreed), list(disturbed(rng, make(rng, agreed)))
+        state[WIDTH], state[LIMIT] = width + 256 * rng.choice((0, 0, 1, 255)), limit
+        script.hand(end, state)
     for _ in range(2):
         script.load(rng.randrange(2), packet(rng, rng.choice((0, 1, 2, 20, 2048, 2049))))
     script.next(rng.randint(1, 3))
@@ -1116,15 +1259,21 @@ def any_script(rng, pools):
         if rng.random() < 0.05:
             script.add(lend_out(out_length(rng)))
         kind = rng.random()
-        if kind < 0.31:
+        if kind < 0.29:
             add_sender_state(rng, script, agreed)
-        elif kind < 0.60:
+        elif kind < 0.54:
             add_receiver_state(rng, script, agreed)
-        elif kind < 0.63:
+        elif kind < 0.57:
             add_restarted_state(rng, script, agreed)
-        elif kind < 0.70:
+        elif kind < 0.61:
+            add_register_state(rng, script, agreed)
+        elif kind < 0.64:
+            add_changed_area(rng, script, agreed)
+        elif kind < 0.66:
+            add_wrong_register(rng, script, agreed)
+        elif kind < 0.72:
             add_decoded_frame(rng, script, agreed)
-        elif kind < 0.77:
+        elif kind < 0.78:
             add_held_frame(rng, script, agreed)
         elif kind < 0.82:
             add_whole_frame(rng, script, agreed)
@@ -1169,16 +1318,62 @@ def longest_operands(rng):
 
 def held_or_nothing():
     """Receivers with nothing held, no octet or some: each of the 256 refusals remembered, and each octet as the first of a
-    frame; states are shown after it, after FF and after the flag."""
+    frame, the register of what is held being right and wrong; states are shown after it, after FF and after the flag."""
     parts = []
     for octet in range(256):
-        for held in (0, 1, 4):
+        for held, register in ((None, 0xFFFF), (b"", 0xFFFF), (b"", 0x1234), (b"\x31\x32\x33", register_over(b"123")),
+                               (b"\x31\x32\x33", 0xFFFF)):
+            count, ends = 0 if held is None else len(held) + 1, (16, 2048, *halves(register))
             for mark in (0, 1):
-                parts += [hand_receiver((3, mark, 5, held, 0, 0, 0, 1, mark, octet, 16, 2048)), receive(b"\xff"), SHOW_STATES,
+                parts += [hand_receiver((3, mark, 5, count, 0, 0, 0, 1, mark, octet, *ends)), receive(b"\xff"), SHOW_STATES,
                           receive(FLAG), SHOW_STATES]
             for bits in range(4):
-                parts += [hand_receiver((bits, bits % 2, 0, held, *[0] * 6, 16, 2048)), receive(bytes((octet,))), SHOW_STATES,
-                          receive(b"\xff"), SHOW_STATES, receive(FLAG), SHOW_STATES, receive(b"\xd1\x01" + FLAG), SHOW_STATES]
+                parts += [fill(3 - bits % 2, 0, held or b""), hand_receiver((bits, bits % 2, 0, count, *[0] * 6, *ends)),
+                          receive(bytes((octet,))), SHOW_STATES, receive(b"\xff"), SHOW_STATES, receive(FLAG), SHOW_STATES,
+                          receive(b"\xd1\x01" + FLAG), SHOW_STATES]
+    return b"".join(parts)
+
+
+def every_bit_of_held():
+    """Four octets held, by a report and in a state handed in: each of their bits changed, and each of the octet's behind
+    them; then each bit of the register."""
+    parts, held = [lend(lent(32))], b"1234"
+    for width in WIDTHS:
+        for bit in range(40):
+            changed = bytearray(held + b"5")
+            changed[bit // 8] ^= 1 << bit % 8
+            parts += [open_receiver(3, width), receive(b"\x06" + held + FLAG), fill(2, 0, changed), SHOW_STATES,
+                      receive(b"\xd1"), SHOW_STATES, receive(b"\x03\x37"), SHOW_STATES, receive(FLAG), SHOW_STATES,
+                      receive(b"\xd1\x01" + FLAG), SHOW_STATES, show(2, 0, 8), show(3, 0, 8)]
+        for bit in range(33):  # the last leaves the register as it is
+            register = halves(register_over(held, width) ^ (1 << bit) % 2 ** 32)
+            parts += [fill(2, 0, held), hand_receiver((3, 1, 0, 5, *[0] * 6, width, 2048, *register)), receive(b"\xd1"),
+                      SHOW_STATES, receive(FLAG), SHOW_STATES]
+    return b"".join(parts)
+
+
+REGISTERS = (0, 1, 0x1234, 0x7FFF, 0xFFFE, 0xFFFF, 0x10000, 0x1FFFF, 0x1234FFFF, 0x80000000, 0xFFFF0000, 0xFFFFFFFE,
+             0xFFFFFFFF)
+
+
+def every_edge_of_register():
+    """Registers at the edges of either width, with nothing held, no octet and some, out of a frame and in one, with each
+    refusal that may be remembered or nearly; areas long enough and too short."""
+    parts = []
+    for lengths in (lent(32), (0, 0, 2053, 2050)):
+        parts.append(lend(lengths))
+        for width in (*WIDTHS, 24):
+            for held in (0, 1, 4):
+                for register in REGISTERS:
+                    ends = (width, 2048, *halves(register))
+                    for bits in (1, 3):
+                        for octets in (FLAG, b"\xd1\x01" + FLAG, b"\xff" + FLAG, b"\x05\x31" + FLAG, b"\xd2" + FLAG):
+                            parts += [hand_receiver((bits, 0, 0, held, *[0] * 6, *ends)), receive(octets[:1]), SHOW_STATES,
+                                      receive(octets[1:]), SHOW_STATES]
+                    for refusal in (0, 4, 5, 10, 11, 14, 20, 21, 22, 255):
+                        for resumed in (0, 1):
+                            parts += [hand_receiver((3, 1, 0, held, 0, 0, 0, 1, resumed, refusal, *ends)), receive(b"\x31"),
+                                      SHOW_STATES, receive(FLAG), SHOW_STATES]
     return b"".join(parts)
 
 
@@ -1189,9 +1384,10 @@ def every_width():
     for width in range(256):
         parts += [open_sender(width, width), open_receiver(width, width), SHOW_STATES]
         for lengths in ((0,) * 4, lent(16), lent(32)):
-            state = (3, *[0] * 9, width, 2048)
+            agreed = Agreed(width, 2048)
+            state = (3, *[0] * 9, *agreed)
             parts += [lend(lengths), hand_sender(state), load_low(b""), load_high(b"AB"), next_octets(2),
-                      hand_receiver(state), receive(b"\x06" + b"11111" + FLAG), SHOW_STATES]
+                      hand_receiver((*state, *halves(agreed.start))), receive(b"\x06" + b"11111" + FLAG), SHOW_STATES]
     return b"".join(parts)
 
 
@@ -1201,7 +1397,7 @@ def every_limit():
     for limit in range(65536):
         state = (3, *[0] * 9, 16, limit)
         parts += [open_sender(limit % 256, 16, limit), open_receiver(limit % 256, 32, limit), SHOW_STATES,
-                  hand_sender(state), next_octets(1), hand_receiver(state), receive(FLAG)]
+                  hand_sender(state), next_octets(1), hand_receiver((*state, *halves(START.start))), receive(FLAG)]
     return b"".join(parts)
 
 
@@ -1213,7 +1409,7 @@ def limit_and_width(limit, width):
     about = Agreed(width if width in WIDTHS else 16, limit if limit in LIMITS else 2)
     lengths = [(0,) * 4, about.areas, tuple(n + 1 for n in about.areas), (20480,) * 4]
     lengths += [tuple(n - (at == place) for place, n in enumerate(about.areas)) for at in range(4)]
-    parts = [open_sender(3, *agreed), open_receiver(3, *agreed), SHOW_STATES]
+    parts, fresh = [open_sender(3, *agreed), open_receiver(3, *agreed), SHOW_STATES], halves(agreed.start)
     for areas in lengths:
         parts += [lend(areas), hand_sender((3, *[0] * 9, *agreed)), load_low(bytes(about.limit + 1)), load_high(b"1"),
                   load_low(bytes(about.limit)), load_high(b"AB"), SHOW_STATES, next_octets(9)]
@@ -1221,10 +1417,14 @@ def limit_and_width(limit, width):
             parts += [hand_sender((3, length, length + 1, *[0] * 5, 1, 0, *agreed)), next_octets(2), SHOW_STATES]
         data = bytes(about.limit)
         for line in (encoded(data + fcs(data, about.width)), encoded(bytes(about.longest)), encoded(bytes(about.most))):
-            parts += [hand_receiver((3, *[0] * 9, *agreed)), receive(line + FLAG), SHOW_STATES]
+            parts += [hand_receiver((3, *[0] * 9, *agreed, *fresh)), receive(line + FLAG), SHOW_STATES]
         for count in (about.most, about.most + 1):
-            parts += [hand_receiver((3, 0, 0, count + 1, *[0] * 6, *agreed)), receive(b"\xd1\x01" + FLAG), SHOW_STATES,
-                      hand_receiver((3, 1, count, 0, 0, 0, 2, 1, 0, 0, *agreed)), receive(FLAG), SHOW_STATES]
+            register = halves(register_over(bytes(count), about.width))
+            parts += [fill(3, 0, bytes(count)), hand_receiver((3, 0, 0, count + 1, *[0] * 6, *agreed, *register)),
+                      receive(b"\xd1\x01" + FLAG), SHOW_STATES,
+                      hand_receiver((3, 0, 0, count + 1, *[0] * 6, *agreed, register[0] ^ 1, register[1])),
+                      receive(b"\xd1\x01" + FLAG), SHOW_STATES,
+                      hand_receiver((3, 1, count, 0, 0, 0, 2, 1, 0, 0, *agreed, *fresh)), receive(FLAG), SHOW_STATES]
     return b"".join(parts)
 
 
@@ -1245,11 +1445,13 @@ def fixed_scripts(rng):
         yield f"command {octet} alone", SHOW_STATES + bytes((octet,))
     for command in (open_sender(3, 32), open_receiver(3, 32), load_low(b"AB"), load_high(b"AB"), next_octets(3),
                     receive(b"\x01\x7e\x01\x7e"), lend((1, 2, 3, 4)), lend_out(5), fill(4, 1, b"AB"),
-                    hand_sender(range(12)), hand_receiver(range(12)), show(0, 1, 2)):
+                    hand_sender(range(12)), hand_receiver(range(14)), show(0, 1, 2)):
         for cut in range(1, len(command) + 1):
             yield f"command {command[:1].decode()}, {cut} octets", SHOW_STATES + command[:cut]
     yield "every area number", every_area_number()
     yield "something held or nothing", held_or_nothing()
+    yield "every bit of what is held", every_bit_of_held()
+    yield "every edge of the register", every_edge_of_register()
     yield "every width", every_width()
     yield "every limit", every_limit()
     for limit in (0, 1, 2, 3, 2048, 16383, 16384, 16385, 65535):
@@ -1331,10 +1533,11 @@ def compare_scripts(programs, rng, total, seen):
 
 REPORTS = (["packets", "held", "held-replaced", *RESTART_LINES]
            + [f"refused-{n}" for n in range(5, 15) if n not in (6, 11)])  # 6 and 11 need other settings than 03
+UNSEEN = "refused-21"  # counted, but never reported where nobody else writes to the areas
 CALLS = {"load": ["D", "R 1", "R 2", "R 3", "R 4"],
          "next octet": ["O", "I", "R 2", "R 3"],
          "receiver": ["Quiet", "P area 0", "P area 1", "H replaced 0", "H replaced 1",
-                      *(f"R {n}" for n in (2, 3, *range(5, 15)))]}
+                      *(f"R {n}" for n in (2, 3, *range(5, 15), 21))]}
 WRONG_LIMITS = ("limit below 2", "limit above 16,384")
 # Good widths and limits. Every answer must be seen at small limits and at 2,048, and these at 16,384.
 GOOD = {f"{width} bits, {limit}": limit for width in WIDTHS for limit in (
@@ -1351,10 +1554,10 @@ WRONG = ["wrong width", *(f"{width}, {limit}" for width in ("16 bits", "32 bits"
 ANSWERS += [(call, about + short, "R 3") for call in CALLS for about in WRONG for short in ("", ", short area")]
 ANSWERS += [(call, about, "opened" if about in GOOD else "R 23" if about.endswith(WRONG_LIMITS) else "R 3")
             for call in ("open sender", "open receiver") for about in (*GOOD, *WRONG)]
-# Restarts, at every width and limit of which answers must be seen.
-ANSWERS += [("receiver", f"{about}, {what}", answer) for what, answer in RESTARTED.items() for about, limit in GOOD.items()
-            if limit != "other limit"]
-KNOWN |= {("receiver", f"{about}, {what}", answer) for what, answer in RESTARTED.items() for about in GOOD}
+# Restarts and registers, at every width and limit of which answers must be seen; with 32 bits no register is too large.
+ANSWERS += [("receiver", f"{about}, {what}", answer) for what, answer in TOLD.items() for about, limit in GOOD.items()
+            if limit != "other limit" and not (what == BEYOND and about.startswith("32"))]
+KNOWN |= {("receiver", f"{about}, {what}", answer) for what, answer in TOLD.items() for about in GOOD}
 ANSWERS += [("show", "", what) for n in range(len(WHOLE_AREAS))
             for what in (f"area {n}", f"area {n} to its end", f"beyond area {n}")] + [("show", "", "no such area")]
 KNOWN |= set(ANSWERS)
@@ -1374,6 +1577,8 @@ def print_seen(seen):
     missing = [kind for kind in REPORTS if not seen.reports[kind]]
     missing += [" ".join(filter(None, key)) for key in ANSWERS if not seen.answers[key]]
     strange = [" ".join(filter(None, key)) for key in seen.answers if key not in KNOWN]
+    strange += [f"{UNSEEN} in captures {seen.reports[UNSEEN]} times"] * (seen.reports[UNSEEN] > 0)
+    missing += [f"the line {UNSEEN}"] * (UNSEEN not in seen.reports)
     print("not seen: " + (", ".join(missing) or "none"))
     if strange:
         print("not known: " + ", ".join(strange))

@@ -1,13 +1,14 @@
 //! An independent model of the COBS link of document 01 (settings ZXE and PRE, two lanes, two
-//! receive areas), with the 32-bit check, the agreed limit of a packet and the restart of document
-//! 02, slips 1, 11 and 4. Written from these documents, the readings of 02 that were agreed on, and
-//! the exercise driver's format alone. "01" and "02" in the comments are the documents, and "step n"
-//! is 01's numbered step. A comment `Reading:` marks a place where the words were weighed.
+//! receive areas), with the 32-bit check, the agreed limit of a packet, the restart and the held
+//! octets' register of document 02, slips 1, 11, 4 and 8. Written from these documents, the
+//! readings of 02 that were agreed on, and the exercise driver's format alone. "01" and "02" in the
+//! comments are the documents, and "step n" is 01's numbered step. A comment `Reading:` marks a
+//! place where the words were weighed.
 //!
 //!     rustc -C opt-level=3 --edition 2021 -o model model.rs
 //!
 //!     model capture    raw octets -> one line a report (16 bits, packets to 2,048)
-//!     model count      raw octets -> the thirteen counts of the tally (the same)
+//!     model count      raw octets -> the fourteen counts of the tally (the same)
 //!     model exercise   commands of docs/EXERCISE.md -> one line an answer
 
 use std::io::{self, Read, Write};
@@ -60,8 +61,9 @@ mod refusal {
     pub const LAST_FULL: u8 = 12;
     pub const TOO_LITTLE: u8 = 13;
     pub const FCS: u8 = 14;
+    pub const HELD_CHANGED: u8 = 21;
     pub const LIMIT: u8 = 23;
-    /// The first and last that refuse a frame.
+    /// The first and last of 01 that refuse a frame.
     pub const FRAME_FIRST: u8 = BEGINS_FF;
     pub const FRAME_LAST: u8 = FCS;
 }
@@ -656,6 +658,8 @@ struct Receiver {
     work: usize,
     decoded: usize,
     held: Option<usize>,
+    /// The check register over the held octets; with nothing held, FFFF or FFFFFFFF.
+    register: u32,
     /// Data octets left in the block.
     left: usize,
     /// Zeros due after them.
@@ -679,6 +683,7 @@ impl Receiver {
             work: 0,
             decoded: 0,
             held: None,
+            register: agreed.check().start,
             left: 0,
             zeros: 0,
             last: LastBlock::None,
@@ -693,6 +698,7 @@ impl Receiver {
         let most = self.agreed.decoded_most();
         self.decoded <= most
             && self.held.is_none_or(|count| count <= most)
+            && self.register_in_bounds()
             && self.left <= FULL_BLOCK
             && self.zeros <= 2
             && self
@@ -705,12 +711,23 @@ impl Receiver {
             })
     }
 
+    /// The register of what is held: any of its width; of nothing: its start value.
+    // Reading: in bounds does not ask whether it is that of the held octets; only D1 does.
+    fn register_in_bounds(&self) -> bool {
+        let start = self.agreed.check().start;
+        match self.held {
+            None => self.register == start,
+            Some(_) => self.register <= start,
+        }
+    }
+
     /// Refusals that may be remembered: 5 only with nothing held, since its FF let that go.
-    // Reading: this is asked of 5 alone, and whatever the settings are.
+    // Reading: this is asked of 5 alone, and whatever the settings are; 21 lets go too, but a state
+    // handed in may have it with something held, as 6 to 10.
     fn remembered_in_bounds(&self, number: u8) -> bool {
         match number {
             refusal::BEGINS_FF => self.held.is_none(),
-            refusal::NOT_AGREED..=refusal::TOO_MUCH => true,
+            refusal::NOT_AGREED..=refusal::TOO_MUCH | refusal::HELD_CHANGED => true,
             _ => false,
         }
     }
@@ -780,7 +797,7 @@ impl Receiver {
         self.in_frame = true;
         match octet {
             RESTART => self.take_restart(),
-            RESUME => self.take_resume(),
+            RESUME => self.take_resume(areas),
             code => self.take_code(areas, code),
         }
     }
@@ -794,20 +811,30 @@ impl Receiver {
 
     /// Step 1: a first D1.
     // Reading: the words "which makes the frame a resumed one" stand before the refusals, so the
-    // mark is set with 6 and 8 too, and a fragment held is lost at the flag of a D1 refused 6.
-    fn take_resume(&mut self) {
+    // mark is set with 6, 8 and 21 too, and a fragment held is lost at the flag of a D1 refused 6.
+    // Reading: with 21 nothing is held from the D1 on, as behind FF, and the areas do not turn.
+    fn take_resume(&mut self, areas: &Areas) {
         self.resumed = true;
         if !self.settings.pre() {
             return self.refuse(refusal::NOT_AGREED);
         }
-        match self.held {
-            None => self.refuse(refusal::NOTHING_HELD),
-            Some(count) => {
-                self.let_go();
-                self.decoded = count;
-                self.work = 1 - self.work;
-            }
+        let Some(count) = self.held else {
+            return self.refuse(refusal::NOTHING_HELD);
+        };
+        let held_area = 1 - self.work;
+        let unchanged = self.register_of(areas[held_area], count) == self.register;
+        self.let_go();
+        if unchanged {
+            self.decoded = count;
+            self.work = held_area;
+        } else {
+            self.refuse(refusal::HELD_CHANGED);
         }
+    }
+
+    /// The register over the first octets of an area.
+    fn register_of(&self, area: &[u8], count: usize) -> u32 {
+        self.agreed.check().register_over(&area[..count])
     }
 
     /// Step 2: a code.
@@ -866,24 +893,26 @@ impl Receiver {
         self.last = LastBlock::None;
     }
 
-    /// From here on nothing is held: at FF, at an accepted D1, and at the flag of a resumed frame that
-    /// is not held itself.
+    /// From here on nothing is held: at FF, at a D1 that is accepted or refused 21, and at the flag
+    /// of a resumed frame that is not held itself.
     fn let_go(&mut self) {
         self.held = None;
+        self.register = self.agreed.check().start;
     }
 
-    /// Step 5: the flag gives the report, and all but settings, width, limit, turn and held count
-    /// goes fresh.
+    /// Step 5: the flag gives the report, and all but settings, width, limit, turn, held count and
+    /// its register goes fresh.
     fn take_flag(&mut self, areas: &Areas) -> Answer {
         let report = if self.in_frame {
             self.report(areas)
         } else {
             Answer::Quiet
         };
-        self.note_held(report);
+        self.note_held(areas, report);
         *self = Receiver {
             work: self.work,
             held: self.held,
+            register: self.register,
             ..Receiver::fresh(self.settings, self.agreed)
         };
         report
@@ -939,10 +968,11 @@ impl Receiver {
     }
 
     /// What a report does to the held fragment and the turn of the areas.
-    fn note_held(&mut self, report: Answer) {
+    fn note_held(&mut self, areas: &Areas, report: Answer) {
         match report {
             Answer::Held { count, .. } => {
                 self.held = Some(count);
+                self.register = self.register_of(areas[self.work], count);
                 self.work = 1 - self.work;
             }
             Answer::Packet { .. } | Answer::Refused(_) if self.resumed => self.let_go(),
@@ -960,7 +990,7 @@ fn shown(area: &[u8], length: usize) -> &[u8] {
     area.get(..length).unwrap_or(&[])
 }
 
-const COUNTS: usize = 13;
+const COUNTS: usize = 14;
 const COUNT_NAMES: [&str; COUNTS] = [
     "packets",
     "held",
@@ -975,6 +1005,7 @@ const COUNT_NAMES: [&str; COUNTS] = [
     "refused-12",
     "refused-13",
     "refused-14",
+    "refused-21",
 ];
 
 #[derive(Default)]
@@ -994,6 +1025,7 @@ impl Tally {
             Answer::Refused(number @ refusal::FRAME_FIRST..=refusal::FRAME_LAST) => {
                 3 + usize::from(number - refusal::FRAME_FIRST)
             }
+            Answer::Refused(refusal::HELD_CHANGED) => 13,
             Answer::Refused(_) | Answer::Quiet => return,
         };
         self.counts[place] = self.counts[place].saturating_add(1);
@@ -1322,16 +1354,17 @@ fn sender_numbers(sender: &Sender) -> [usize; 12] {
     ]
 }
 
-/// The twelve numbers of `t`.
-fn receiver_of(numbers: [usize; 12]) -> Receiver {
+/// The fourteen numbers of `t`.
+fn receiver_of(numbers: [usize; 14]) -> Receiver {
     let [settings, work, decoded, held, left, zeros, last, ..] = numbers;
-    let [.., in_frame, resumed, remembered, width, limit] = numbers;
+    let [.., in_frame, resumed, remembered, width, limit, low_half, high_half] = numbers;
     Receiver {
         settings: Settings((settings % 256) as u8),
         agreed: agreed_of(width, limit),
         work: work % 2,
         decoded,
         held: held.checked_sub(1),
+        register: (low_half | high_half << 16) as u32,
         left: left % 256,
         zeros: zeros % 256,
         last: [LastBlock::None, LastBlock::Full, LastBlock::Other][last % 3],
@@ -1341,7 +1374,7 @@ fn receiver_of(numbers: [usize; 12]) -> Receiver {
     }
 }
 
-fn receiver_numbers(receiver: &Receiver) -> [usize; 12] {
+fn receiver_numbers(receiver: &Receiver) -> [usize; 14] {
     [
         usize::from(receiver.settings.0),
         receiver.work,
@@ -1359,6 +1392,8 @@ fn receiver_numbers(receiver: &Receiver) -> [usize; 12] {
         receiver.refusal.map_or(0, usize::from),
         usize::from(receiver.agreed.width),
         usize::from(receiver.agreed.limit),
+        receiver.register as usize % 0x1_0000,
+        receiver.register as usize / 0x1_0000,
     ]
 }
 

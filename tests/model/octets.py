@@ -7,7 +7,8 @@ A case is 64 octets, two areas, and some calls on them. The octets spell a state
 width of 16 bits, of 32 or a wrong one, and any limit. Of each call the answer, all 64 octets, both areas and what lies
 around them must be what the model answers and leaves, whose numbers are packed and unpacked here. Prints one line, and
 exits 1 at the first difference, or if a run of full size did not see every answer of every call, restarts with something
-held among them, at either width, and most of them with a limit of 16,384.
+held and registers of what is held that are wrong or out of bounds among them, at either width, and most of them with a limit
+of 16,384.
 """
 import argparse
 import collections
@@ -18,9 +19,10 @@ import subprocess
 import sys
 import tempfile
 
-from compare import (FLAG, LIMIT, LIMITS, SHOW_STATES, START, WIDTH, WIDTHS, Agreed, build_model, encoded, fcs, fill,
-                     hand_receiver, hand_sender, lend, load_high, load_low, next_octets, open_receiver, open_sender, receive,
-                     show, within, wrong_limit, wrong_width)
+from compare import (FLAG, LIMIT, LIMITS, REGISTER, REMEMBERED_GOOD, SHOW_STATES, START, WIDTH, WIDTHS, Agreed, build_model,
+                     encoded, fcs, fill, halves, hand_receiver, hand_sender, lend, load_high, load_low, next_octets,
+                     open_receiver, open_sender, receive, register_over, show, some_register, within, wrong_limit,
+                     wrong_register, wrong_width)
 
 FULL = 20_000       # cases of a run of full size
 BATCH = 500         # cases that the model is asked in one run
@@ -28,6 +30,7 @@ STATE = 64
 LONGEST_AREA, LONGEST_LINE = 18500, 16500
 GUARD = 32          # octets behind each area, and on both sides of the state, that nobody may write
 QUIET, PACKET, HELD, REFUSED, DONE, OCTET, IDLE = range(7)
+OF_FRAMES = (*range(5, 15), 21)  # refusals that report a frame
 
 
 # ------------------------------------------------------------------------------------------------
@@ -39,24 +42,23 @@ class ReceiverOctets:
     20 data left, 21 zeros due, 22 last block, 23 in a frame, 24 resumed, 25 remembered refusal."""
     layout = struct.Struct("<BBHBBIBHBHIBBBBBB")
     bounded = {10: 1, 13: 1, 22: 2, 23: 1, 24: 1}  # places, and the largest value there that spells something
-    largest = (255, 1, 65535, 65536, 255, 255, 2, 1, 1, 255, 255, 65535)  # of each number, as far as its field goes
+    largest = (255, 1, 65535, 65536, 255, 255, 2, 1, 1, 255, 255, *[65535] * 3)  # of each number, as far as its field goes
 
     @classmethod
     def pack(cls, numbers, rng=None):
         """The octets of a state; with rng, any in the fields that are not looked at."""
-        settings, work, decoded, held, left, zeros, last, in_frame, resumed, refusal, width, limit = numbers
-        mode, plain, register, count = (
-            (0, 0, 0, 0) if rng is None else
-            (rng.randrange(256), rng.getrandbits(32), rng.getrandbits(32), rng.choice((1, 2051, 2052, 2053, 2054, 65535))))
-        return cls.layout.pack(1, width, limit, settings, mode, plain, work, decoded, held > 0,
-                               held - 1 if held else count, register, left, zeros, last, in_frame, resumed, refusal)
+        settings, work, decoded, held, left, zeros, last, in_frame, resumed, refusal, width, limit, low, high = numbers
+        mode, plain, count = ((0, 0, 0) if rng is None else
+                              (rng.randrange(256), rng.getrandbits(32), rng.choice((1, 2051, 2052, 2053, 2054, 65535))))
+        return cls.layout.pack(1, width, limit, settings, mode, plain, work, decoded, held > 0, held - 1 if held else count,
+                               low | high << 16, left, zeros, last, in_frame, resumed, refusal)
 
     @classmethod
     def unpack(cls, octets):
-        (_, width, limit, settings, _, _, work, decoded, something, count, _, left, zeros, last, in_frame, resumed,
+        (_, width, limit, settings, _, _, work, decoded, something, count, register, left, zeros, last, in_frame, resumed,
          refusal) = cls.layout.unpack(octets[:cls.layout.size])
         return [settings, work, decoded, count + 1 if something else 0, left, zeros, last, in_frame, resumed, refusal,
-                width, limit]
+                width, limit, *halves(register)]
 
 
 class SenderOctets:
@@ -130,14 +132,14 @@ def sender_numbers(rng, agreed):
 
 
 def receiver_numbers(rng, agreed):
-    """A receiver in bounds."""
+    """A receiver in bounds, but for its register."""
     settings, most = rng.choice((3, 3, 3, 3, 2, 1, 0, rng.randrange(256))), agreed.most
     work, held = rng.randrange(2), min(most + 1, rng.choice((0, 0, 1, 2, 9, most, most + 1, rng.randint(0, most + 1))))
     if rng.random() < 0.3:
         return [settings, work, 0, held, 0, 0, 0, 0, 0, 0, *agreed]
     decoded = within(0, rng.choice((0, 0, 1, 4, 5, 6, 7, most - 11, *range(most - 3, most + 1), rng.randint(0, most))), most)
     left, zeros, last = rng.choice((0, 0, 0, 1, 2, 207, rng.randint(0, 207))), rng.randrange(3), rng.randrange(3)
-    refusal = rng.choice((0, 0, 0, rng.randint(5, 10)))
+    refusal = rng.choice((0, 0, 0, rng.choice(REMEMBERED_GOOD)))
     held = 0 if refusal == 5 else held
     resumed = 1 if refusal == 0 and last == 0 else rng.randrange(2)
     if refusal == 0 and last == 2 and left == 0:
@@ -145,11 +147,23 @@ def receiver_numbers(rng, agreed):
     return [settings, work, decoded, held, left, zeros, last, 1, resumed, refusal, *agreed]
 
 
+def with_register(rng, numbers, areas, agreed):
+    """A receiver with its register: mostly that of what it holds, as far as there is an area; seldom one out of bounds."""
+    work, held = numbers[1], numbers[3]
+    octets = areas[1 - work][:held - 1] if held else b""
+    register, way = register_over(octets, agreed.width), rng.random()
+    if way < 0.15:
+        register = some_register(rng, agreed, held)
+    elif way < 0.2 and not (held and agreed.width == 32):
+        register = wrong_register(rng, agreed, held)
+    return [*numbers, *halves(register)]
+
+
 def disturbed(rng, kind, numbers):
     """One number or two moved by one or put to an edge."""
     numbers, limit = list(numbers), numbers[LIMIT]
     for _ in range(rng.choice((1, 1, 2))):
-        at = rng.randrange(1, 12)
+        at = rng.randrange(1, len(numbers))
         edges = (*EDGES, *range(limit, limit + 8))
         numbers[at] = rng.choice((numbers[at] - 1, numbers[at] + 1, rng.choice(edges), rng.choice(edges)))
         numbers[at] = within(0, numbers[at], kind.largest[at])
@@ -301,13 +315,16 @@ class Bench:
         areas = [content(rng, length) for length in lengths]
         numbers = (receiver_numbers if self.receiving else sender_numbers)(rng, agreed)
         first = None
-        if self.receiving and rng.random() < 0.4:
-            make = rng.choice((self.frame_decoded,) * 5 + (self.frame_held,) * 2 + (self.restarted,) + (self.restarting,) * 2)
+        if self.receiving and rng.random() < 0.5:
+            make = rng.choice((*[self.frame_decoded] * 5, *[self.frame_held] * 3, *[self.remembering] * 2,
+                               *[self.restarting] * 3, *[self.changing] * 3))
             numbers, first = make(areas, agreed)
+        if self.receiving and len(numbers) == REGISTER:
+            numbers = with_register(rng, numbers, areas, agreed)
         if rng.random() < 0.25:
             numbers = disturbed(rng, self.kind, numbers)
         if wrong:
-            numbers[WIDTH:] = wrong_agreed(rng, agreed)
+            numbers[WIDTH:REGISTER] = wrong_agreed(rng, agreed)
         octets = self.kind.pack(numbers, rng if rng.random() < 0.6 else None)
         octets += rng.randbytes(STATE - len(octets))
         if rng.random() < (0.3 if wrong else 0.13):
@@ -344,19 +361,32 @@ class Bench:
         numbers = [rng.choice((3, 2, 3, 2, 1)), work, 0, cut + 1, 0, 0, 0, 0, 0, 0, *agreed]
         return numbers, b"\xd1" + encoded(octets[cut:], runs=False) + FLAG
 
-    def restarted(self, _areas, agreed):
-        """5 remembered, something held or nothing."""
+    def remembering(self, _areas, agreed):
+        """5 or 21 remembered, something held or nothing."""
         rng, most = self.rng, agreed.most
         numbers = [rng.choice((3, 2, 1, 0)), rng.randrange(2), rng.choice((0, 0, most, rng.randint(0, most))),
                    rng.choice((0, 1, 2, most + 1)), rng.choice((0, 0, 207)), rng.randrange(3), rng.randrange(3), 1,
-                   rng.randrange(2), 5, *agreed]
+                   rng.randrange(2), rng.choice((5, 21)), *agreed]
         return numbers, rng.choice((FLAG, FLAG, b"\xff", b"\xd1", b"1"))
 
     def restarting(self, _areas, agreed):
         """Something held, FF to come."""
         rng = self.rng
         numbers = [rng.choice((3, 3, 2, 1, 0)), rng.randrange(2), 0, rng.choice((1, 2, agreed.most + 1)), *[0] * 6, *agreed]
-        return numbers, b"\xff" + rng.choice((b"", b"", FLAG, b"\x03\xc0\x21" + FLAG, rng.randbytes(3)))
+        return numbers, b"\xff" + rng.choice((*[b""] * 4, FLAG, b"\x03\xc0\x21" + FLAG, rng.randbytes(3)))
+
+    def changing(self, areas, agreed):
+        """Something held, and an octet of it changed, or the one behind it; D1 to come."""
+        rng, work, most = self.rng, self.rng.randrange(2), agreed.most
+        count = min(most, rng.choice((1, 2, 9, most, rng.randint(1, most))))
+        octets = bytearray(areas[1 - work])
+        register = register_over(octets[:count], agreed.width)
+        at = rng.choice((0, count - 1, rng.randrange(count), count))
+        if at < len(octets):
+            octets[at] ^= rng.randint(1, 255)
+            areas[1 - work] = bytes(octets)
+        numbers = [rng.choice((3, 3, 2, 2, 1)), work, 0, count + 1, *[0] * 6, *agreed, *halves(register)]
+        return numbers, b"\xd1" + rng.choice((*[b""] * 4, FLAG, b"\x03\x37\x38" + FLAG, b"\xff\xd1" + FLAG, rng.randbytes(3)))
 
     def call(self, octets):
         """Makes a call, with these octets if there are any."""
@@ -369,7 +399,7 @@ class Bench:
                     return self.receive()
                 agreed = made_good(rng, agreed_in(self.spelt()))
                 return self.read_on(b"".join(line_piece(rng, agreed) for _ in range(rng.choice((0, 1, 1, 2, 4))))[:60000])
-            return self.receive(octets) if len(octets) == 1 and rng.random() < 0.5 else self.read_on(octets)
+            return self.receive(octets) if len(octets) == 1 and rng.random() < 0.7 else self.read_on(octets)
         return rng.choice((self.load, self.next, self.write_on))()
 
     def lent(self):
@@ -480,22 +510,45 @@ def answer_of(said):
             "H": lambda: HELD << 24 | numbers[1] << 16 | numbers[0]}[letter]()
 
 
-def of_restart(call):
+def rest_in_bounds(numbers, most):
+    """Whether a receiver is in bounds, its register left aside, and that 5 is not remembered with something held."""
+    _, _, decoded, held, left, zeros, last, in_frame, resumed, refusal, *_ = numbers
+    if max(decoded, held - 1) > most or left > 207 or zeros > 2:
+        return False
+    if not in_frame:
+        return not (decoded or left or zeros or last or resumed or refusal)
+    if refusal:
+        return refusal in REMEMBERED_GOOD
+    return bool(resumed if last == 0 else last == 1 or left or decoded)
+
+
+def of_held(call):
     """How an answer is called beside its usual name: where a receiver is out of bounds only since it holds something with 5
-    remembered, and where it lets go what it holds."""
-    if place_of(call) == 0 or not agreed_of(call).good or not spells(ReceiverOctets, call.spelt):
+    remembered, or only by its register; and where it lets go what it holds, by FF or by a D1 that is refused 21."""
+    agreed = agreed_of(call)
+    if place_of(call) == 0 or not agreed.good or not spells(ReceiverOctets, call.spelt):
         return ""
-    _, _, decoded, held, left, zeros, _, in_frame, _, refusal, *_ = ReceiverOctets.unpack(call.spelt)
-    if held and refusal == 5 and in_frame and call.answer == REFUSED << 24 | 3:
-        return "-5-held" * (max(decoded, held - 1) <= agreed_of(call).most and left <= 207 and zeros <= 2)
-    return "-let-go" * (held > 0 and not in_frame and call.operand[:1] == b"\xff" and call.answer in (QUIET, REFUSED << 24 | 5))
+    numbers = ReceiverOctets.unpack(call.spelt)
+    (bits, work, _, held, *_), in_frame, refusal = numbers, numbers[7], numbers[9]
+    register = numbers[REGISTER] | numbers[REGISTER + 1] << 16
+    if call.answer == REFUSED << 24 | 3:
+        good = register <= agreed.start if held else register == agreed.start
+        five = refusal == 5 and held > 0
+        return ("-5-held" * (five and good) + "-register" * (not five and not good)) * rest_in_bounds(numbers, agreed.most)
+    if not held or in_frame:
+        return ""
+    if call.operand[:1] == b"\xff":
+        return "-let-go" * (call.answer in (QUIET, REFUSED << 24 | 5))
+    if call.operand[:1] == b"\xd1" and bits & 2 and call.answer in (QUIET, REFUSED << 24 | 21):
+        return "-changed" * (register_over(call.areas[1 - work][0][:held - 1], agreed.width) != register)
+    return ""
 
 
 def label(call, no_state):
     """What an answer is called in the line that is printed."""
     kind, mark, value = call.answer >> 24, call.answer >> 16 & 1, call.answer & 0xFFFF
-    if restart := of_restart(call):
-        return (f"R{value}" if kind == REFUSED else "quiet") + restart
+    if held := of_held(call):
+        return (f"R{value}" if kind == REFUSED else "quiet") + held
     if kind == REFUSED:
         return f"R{value}" + "-short" * too_short(call) + "-no-state" * no_state
     if call.name == "write_on" and kind == OCTET:
@@ -535,12 +588,12 @@ def shortest(call):
     return min({"load_low": call.lengths[:1], "load_high": call.lengths[1:]}.get(call.name, call.lengths))
 
 
-REPORTS = ["quiet", "quiet-let-go", "P0", "P1", "H0", "H1", "R2", "R2-no-state", "R3", "R3-no-state", "R3-5-held",
-           *(f"R{n}" for n in range(5, 15))]
+REPORTS = ["quiet", "quiet-let-go", "quiet-changed", "P0", "P1", "H0", "H1", "R2", "R2-no-state", "R3", "R3-no-state",
+           "R3-5-held", "R3-register", *(f"R{n}" for n in OF_FRAMES)]
 LOADS = ["done", "R1", "R2", "R2-no-state", "R3", "R3-no-state", "R4"]
 ENDS = ["idle", "R2", "R2-no-state", "R3", "R3-no-state"]
-ANSWERS = {"receive": REPORTS, "read_on": ["nothing", *REPORTS, "R5-let-go"], "load_low": LOADS, "load_high": LOADS,
-           "next": ["octet", *ENDS], "write_on": ["nothing", "flag", "room", *ENDS]}
+ANSWERS = {"receive": REPORTS, "read_on": ["nothing", *REPORTS, "R5-let-go", "R21-changed"], "load_low": LOADS,
+           "load_high": LOADS, "next": ["octet", *ENDS], "write_on": ["nothing", "flag", "room", *ENDS]}
 # At each width; any other width, and a limit out of range, is refused 3, also where an area is too short for any.
 WANTED = {(name, f"{width} bits"): answers for name, answers in ANSWERS.items() for width in WIDTHS}
 WANTED |= {(name, wrong): ["R3", "R3-no-state", "R3-short", "R3-short-no-state"] + ["nothing"] * ("nothing" in answers)
@@ -548,8 +601,9 @@ WANTED |= {(name, wrong): ["R3", "R3-no-state", "R3-short", "R3-short-no-state"]
 WANTED |= {(f"{end}_open", about): [answer] for end in ("receiver", "sender") for about, answer in (
     ("16 bits", "done"), ("32 bits", "done"), ("wrong width", "R3"), ("wrong limit", "R23"), ("wrong width and limit", "R23"))}
 # Of these at least some must be with a limit of 16,384.
-LONGEST = {"receive": ["quiet", "quiet-let-go", "P0", "P1", "H0", "R2", "R3", "R3-5-held", "R14"],
-           "read_on": ["quiet", "P0", "P1", "R2", "R3", "R5-let-go", "R10"],
+LONGEST = {"receive": ["quiet", "quiet-let-go", "quiet-changed", "P0", "P1", "H0", "R2", "R3", "R3-5-held", "R3-register",
+                       "R14"],
+           "read_on": ["quiet", "P0", "P1", "R2", "R3", "R3-register", "R5-let-go", "R10", "R21-changed"],
            "load_low": ["done", "R1", "R2", "R3", "R4"], "load_high": ["done", "R1", "R2", "R3", "R4"],
            "next": ["octet", "idle", "R2", "R3"], "write_on": ["flag", "room", "idle", "R2", "R3"]}
 
@@ -601,7 +655,7 @@ def check(call, asked, lines, seen, longest):
         if call.name == "read_on":
             must(count <= len(call.operand), "octets read", count, len(call.operand))
             must(answer != QUIET or count == len(call.operand), "octets read", count, len(call.operand))
-        changed = answer != IDLE << 24 and (answer >> 24 != REFUSED or answer & 0xFFFF in range(5, 15))
+        changed = answer != IDLE << 24 and (answer >> 24 != REFUSED or answer & 0xFFFF in OF_FRAMES)
         if changed:
             octets = kind.pack(numbers)
             wanted = before[:call.at] + octets + before[call.at + len(octets):]

@@ -6,8 +6,8 @@
     tests/captures/NAME.octets      a capture
     tests/captures/NAME.lines       what the capture program prints for it
     tests/captures/NAME.counts      what the count program prints for it
-    tests/scripts/NAME.script       commands for the exercise driver; base, width, limit and restart have the tables
-                                    below
+    tests/scripts/NAME.script       commands for the exercise driver; base, width, limit, restart and areas have the
+                                    tables below
     tests/scripts/NAME.answers      what the driver writes for them
     crates/count/stdin, stdout      the capture stale-fragment, and its counts
 
@@ -21,9 +21,9 @@ import random
 import sys
 import tempfile
 
-from compare import (FLAG, HERE, WHOLE_AREAS, WIDTHS, Programs, build_model, fcs, fill, hand_receiver, hand_sender, lend,
-                     lend_out, lent, load_high, load_low, next_octets, open_receiver, open_sender, packet, receive,
-                     sent_octets, show, zero_free)
+from compare import (FLAG, HERE, WHOLE_AREAS, WIDTHS, Programs, build_model, fcs, fill, halves, hand_receiver, hand_sender,
+                     lend, lend_out, lent, load_high, load_low, next_octets, open_receiver, open_sender, packet, receive,
+                     register_over, sent_octets, show, zero_free)
 
 
 def hx(text):
@@ -275,11 +275,43 @@ def sender(settings=3, low=(0, 0), high=(0, 0), left=0, zeros=0, line=0, suspend
     return hand_sender((settings, *low, *high, left, zeros, line, suspended, cut, width, limit))
 
 
+def ramp(count):
+    """1, 2, 3, ... without zeros."""
+    return bytes(1 + n % 250 for n in range(count))
+
+
+def held_octets(held):
+    """What is held: a count stands for the ramp's octets."""
+    return ramp(held) if isinstance(held, int) else held
+
+
+def held_register(held, width):
+    """The register over what is held, its start value for None; a wrong width has that of 16 bits."""
+    return register_over(held_octets(held) or b"", 32 if width % 256 == 32 else 16)
+
+
 def receiver(settings=3, work=0, decoded=0, held=None, left=0, zeros=0, last=0, frame=0, resumed=0, refusal=0, width=16,
-             limit=2048):
-    """A receiver state; held a count or None; last 0 none, 1 D0, 2 other."""
-    return hand_receiver((settings, work, decoded, 0 if held is None else held + 1, left, zeros, last, frame,
-                          resumed, refusal, width, limit))
+             limit=2048, register=None):
+    """A receiver state; held None, the octets, or a count of the ramp's; last 0 none, 1 D0, 2 other. The register is that
+    of what is held, unless another is given; the octets themselves are put nowhere."""
+    count = 0 if held is None else len(held_octets(held)) + 1
+    register = held_register(held, width) if register is None else register
+    return hand_receiver((settings, work, decoded, count, left, zeros, last, frame, resumed, refusal, width, limit,
+                          *halves(register)))
+
+
+def holding(held, work=0, **numbers):
+    """The same, and the octets lie where they are held: what a D1 needs that is to be accepted."""
+    return fill(3 - work, 0, held_octets(held)) + receiver(work=work, held=held, **numbers)
+
+
+def told(numbers, width=16, limit=2048, held=None):
+    """The receiver's line of `d`, by the ten numbers before width and limit. Its register is that of the octets held, which
+    are the ramp's unless others are given."""
+    count = int(numbers.split()[3])
+    held = None if count == 0 else ramp(count - 1) if held is None else held
+    assert count == (0 if held is None else len(held) + 1)
+    return " ".join(("T", numbers, *map(str, (width, limit, *halves(held_register(held, width))))))
 
 
 def show_sender(at=0):
@@ -292,12 +324,11 @@ def show_receiver(at=0):
 
 def fill_all():
     """Known octets in the ends' areas: 1, 2, 3, ... without zeros, so that what is written shows."""
-    ramp = bytes(1 + n % 250 for n in range(2100))
-    return b"".join(fill(area, 0, ramp) for area in range(4))
+    return b"".join(fill(area, 0, ramp(2100)) for area in range(4))
 
 
 # --- What stands before the first command
-FRESH = ["S 0 0 0 0 0 0 0 0 0 0 16 2048", "T 0 0 0 0 0 0 0 0 0 0 16 2048"]
+FRESH = ["S 0 0 0 0 0 0 0 0 0 0 16 2048", "T 0 0 0 0 0 0 0 0 0 0 16 2048 65535 0"]
 
 
 def start():
@@ -376,7 +407,7 @@ RECEIVER_CLAUSES = [
      [receiver(decoded=2052, left=1, **IN_OTHER), receiver(decoded=2052, **IN_OTHER),
       receiver(decoded=65535, **IN_OTHER), receiver(decoded=2052, frame=1, refusal=10)]),
     ("held count at most 2,051",
-     [receiver(held=0), receiver(held=2051), receiver(held=2051, decoded=1, left=1, **IN_OTHER)],
+     [holding(0), holding(2051), receiver(held=2051, decoded=1, left=1, **IN_OTHER)],
      [receiver(held=2052), receiver(held=65534), receiver(held=2052, decoded=1, left=1, **IN_OTHER)]),
     ("data left at most 207",
      [receiver(left=207, last=1, frame=1), receiver(left=207, **IN_OTHER),
@@ -387,13 +418,19 @@ RECEIVER_CLAUSES = [
      [receiver(left=1, zeros=2, **IN_OTHER), receiver(decoded=5, zeros=2, **IN_OTHER)],
      [receiver(left=1, zeros=3, **IN_OTHER), receiver(left=1, zeros=255, **IN_OTHER),
       receiver(decoded=5, zeros=3, **IN_OTHER)]),
-    ("remembered refusal none or 5 to 10",
+    ("remembered refusal none, 5 to 10 or 21",
      [receiver(frame=1, refusal=5), receiver(frame=1, refusal=10),
-      receiver(frame=1, resumed=1, refusal=8, held=4)],
+      receiver(frame=1, resumed=1, refusal=8, held=4), receiver(frame=1, refusal=21)],
      [receiver(frame=1, refusal=4), receiver(frame=1, refusal=11), receiver(frame=1, refusal=1),
-      receiver(frame=1, refusal=255), receiver(frame=1, resumed=1, refusal=14, held=4)]),
+      receiver(frame=1, refusal=255), receiver(frame=1, resumed=1, refusal=14, held=4),
+      receiver(frame=1, refusal=20), receiver(frame=1, refusal=22)]),
+    ("register of what is held, at its start with nothing held",
+     [receiver(register=0xFFFF), receiver(held=3, register=0), receiver(held=3, register=0xFFFF),
+      receiver(held=0, register=0x1234, decoded=1, left=1, **IN_OTHER)],
+     [receiver(register=0xFFFE), receiver(register=0), receiver(register=0x1FFFF), receiver(held=3, register=0x10000),
+      receiver(held=0, register=0xFFFFFFFF), receiver(register=0x1234, decoded=1, left=1, **IN_OTHER)]),
     ("no frame begun: the rest fresh",
-     [receiver(), receiver(work=1), receiver(work=1, held=2051), receiver(settings=255, held=0)],
+     [receiver(), receiver(work=1), holding(2051, work=1), holding(0, settings=255)],
      [receiver(decoded=1), receiver(left=1), receiver(zeros=1), receiver(last=1), receiver(last=2),
       receiver(last=2, decoded=1), receiver(resumed=1), receiver(refusal=5)]),
     ("in a frame, no refusal: last block none if resumed",
@@ -628,12 +665,12 @@ def receivers():
            + receive(hx("D1 01 7E")), "H 3 0, P 0 9 31 32 33 34 35 36 37 38 39, R 8")
     yield ("resumed, another frame between", open_receiver(3)
            + receive(hx("0C 31 32 33 7E 05 7E")) + D, "H 3 0, H 0 1")
-    yield ("resumed and refused leaves nothing held", receiver(held=5) + receive(hx("D1 D2")) + D + receive(FLAG) + D
+    yield ("resumed and refused leaves nothing held", holding(5) + receive(hx("D1 D2")) + D + receive(FLAG) + D
            + receive(hx("D1 7E")), "R 7, R 8")
-    yield ("resumed, FF after D1 is 7", receiver(held=5) + receive(hx("D1 FF")) + D + receive(FLAG) + D, "R 7")
-    yield ("resumed, D1 after D1 is 7", receiver(held=5) + receive(hx("D1 D1 7E")) + D, "R 7")
+    yield ("resumed, FF after D1 is 7", holding(5) + receive(hx("D1 FF")) + D + receive(FLAG) + D, "R 7")
+    yield ("resumed, D1 after D1 is 7", holding(5) + receive(hx("D1 D1 7E")) + D, "R 7")
     yield ("refused, not resumed, leaves what is held",
-           receiver(held=5) + receive(hx("D2 7E")) + D + receive(hx("01 7E")) + D + receive(hx("D1 7E")) + D,
+           holding(5) + receive(hx("D2 7E")) + D + receive(hx("01 7E")) + D + receive(hx("D1 7E")) + D,
            "R 7, R 13, R 9")
     yield ("begun FF, nothing held any more",
            receiver(held=5) + receive(hx("FF 7E")) + D + receive(hx("D1 7E")) + D, "R 5, R 8")
@@ -641,11 +678,11 @@ def receivers():
            receiver(held=5) + receive(hx("E0 03 47 0F 7E")) + D, "P 0 2 00 00")
     yield ("D1 without PRE, held: 6, and at its flag nothing held", receiver(settings=1, held=5) + receive(hx("D1")) + D
            + receive(hx("31")) + D + receive(FLAG) + D, "R 6")
-    yield ("D1 accepted turns the areas, also the other way", receiver(work=1, held=2) + receive(hx("D1")) + D
+    yield ("D1 accepted turns the areas, also the other way", holding(2, work=1) + receive(hx("D1")) + D
            + receive(hx("03 41 42")) + D + show_receiver() + receive(FLAG) + D, "R 14")
-    yield ("D1 onto the longest fragment: a code fits, nothing more", receiver(held=2051) + receive(hx("D1 02")) + D
+    yield ("D1 onto the longest fragment: a code fits, nothing more", holding(2051) + receive(hx("D1 02")) + D
            + receive(hx("31")) + D + receive(FLAG) + D, "R 10")
-    yield "D1 onto 2,050: one zero more", receiver(held=2050) + receive(hx("D1 01")) + D + receive(FLAG) + D, "R 14"
+    yield "D1 onto 2,050: one zero more", holding(2050) + receive(hx("D1 01")) + D + receive(FLAG) + D, "R 14"
     yield ("00 is 7E as code and as data", open_receiver(3) + receive(hx("00")) + D + receive(hx("00 31")) + D
            + show_receiver() + receive(FLAG) + D, "H 2 0")
     yield ("a refused frame is skipped to its flag", open_receiver(3) + receive(hx("FF D1 01 D0 00 05 31")) + D
@@ -666,6 +703,7 @@ def receivers():
     yield ("handed in: resumed without PRE, inside a block",
            receiver(settings=0, decoded=3, held=4, left=2, resumed=1, **IN_OTHER)
            + receive(FLAG) + D, "R 11")
+    yield ("21: the held octets are others", receiver(held=5, register=0x1234) + receive(hx("D1")) + D + receive(FLAG) + D, "R 21")
     whole = (b"\xd0" + b"A" * 207) * 9 + b"\xbc" + b"A" * 185 + fcs(b"A" * 2048) + FLAG
     yield ("Packet, longest, in either area", open_receiver(3) + receive(whole) + receive(hx("05 31 7E")) + receive(whole) + D,
            ", H 1 0, ".join(f"P {area} 2048" + " 41" * 2048 for area in (0, 1)))
@@ -716,7 +754,7 @@ def codes():
                    fill(2, 0, b"\x31" * 20) + commands, ", ".join(answers))
     commands, answers = b"", []
     for code in [*range(0, 8), 0x7D, 0x7E, 0x7F, *range(0xCD, 0x100)]:
-        commands += receiver(held=3) + receive(b"\xd1" + bytes((code,))) + D + receive(FLAG)
+        commands += receiver(held=b"111") + receive(b"\xd1" + bytes((code,))) + D + receive(FLAG)
         answers.append("R 9" if code == 0x7E else code_answer(code, 3, b"\xd1"))
     yield ("octets after D1 onto 3 held",
            fill(2, 0, b"\x31" * 20) + fill(3, 0, b"\x31" * 20) + commands, ", ".join(answers))
@@ -745,16 +783,18 @@ def script_format():
     yield "x, as many as there are", show(0, 20479, 65535) + show(4, 40959, 65535), ["X 70", "X C4"]
     yield ("f of nothing", fill(0, 0, b"") + fill(0, 20480, b"") + fill(9, 0, b"") + show(0, 0, 2), ["X A0 B0"])
     yield ("numbers too large count as remainders", hand_sender((259, 4, 0, 0, 0, 256, 258, 4, 2, 3, 272, 2048))
-           + hand_receiver((515, 2, 5, 65535, 257, 256, 5, 3, 2, 261, 544, 2048)) + D,
-           ["S 3 4 0 0 0 0 2 1 0 1 16 2048", "T 3 0 5 65535 1 0 2 1 0 5 32 2048"])
-    yield ("numbers as large as they can be", hand_sender((65535,) * 12) + hand_receiver((65535,) * 12) + D,
-           ["S 255 65535 65535 65535 65535 255 255 0 1 1 255 65535", "T 255 1 65535 65535 255 255 0 1 1 255 255 65535"])
-    yield ("one below", hand_sender((65534,) * 12) + hand_receiver((65534,) * 12) + D,
-           ["S 254 65534 65534 65534 65534 254 254 2 0 0 254 65534", "T 254 0 65534 65534 254 254 2 0 0 254 254 65534"])
+           + hand_receiver((515, 2, 5, 65535, 257, 256, 5, 3, 2, 261, 544, 2048, 4660, 43981)) + D,
+           ["S 3 4 0 0 0 0 2 1 0 1 16 2048", "T 3 0 5 65535 1 0 2 1 0 5 32 2048 4660 43981"])
+    yield ("numbers as large as they can be", hand_sender((65535,) * 12) + hand_receiver((65535,) * 14) + D,
+           ["S 255 65535 65535 65535 65535 255 255 0 1 1 255 65535",
+            "T 255 1 65535 65535 255 255 0 1 1 255 255 65535 65535 65535"])
+    yield ("one below", hand_sender((65534,) * 12) + hand_receiver((65534,) * 14) + D,
+           ["S 254 65534 65534 65534 65534 254 254 2 0 0 254 65534",
+            "T 254 0 65534 65534 254 254 2 0 0 254 254 65534 65534 65534"])
     yield ("work area 3 is the second",
-           hand_receiver((3, 3, 0, 0, 0, 0, 0, 0, 0, 0, 16, 2048)) + receive(hx("E0 03 47 0F 7E")), "P 1 2 00 00")
+           hand_receiver((3, 3, 0, 0, 0, 0, 0, 0, 0, 0, 16, 2048, 65535, 0)) + receive(hx("E0 03 47 0F 7E")), "P 1 2 00 00")
     yield ("held 1 is a fragment of no octets",
-           hand_receiver((3, 0, 0, 1, 0, 0, 0, 0, 0, 0, 16, 2048)) + receive(hx("05 31 7E")) + D, "H 1 1")
+           hand_receiver((3, 0, 0, 1, 0, 0, 0, 0, 0, 0, 16, 2048, 65535, 0)) + receive(hx("05 31 7E")) + D, "H 1 1")
     yield "n of none, r of none", next_octets(0) + receive(b""), []
 
 
@@ -853,24 +893,24 @@ def slip_examples():
 
 def openings():
     yield ("16 and 32", open_sender(1, 16) + open_receiver(2, 32) + D + open_sender(255, 32) + open_receiver(0, 16) + D,
-           ["S 1 0 0 0 0 0 0 0 0 0 16 2048", "T 2 0 0 0 0 0 0 0 0 0 32 2048",
-            "S 255 0 0 0 0 0 0 0 0 0 32 2048", "T 0 0 0 0 0 0 0 0 0 0 16 2048"])
+           ["S 1 0 0 0 0 0 0 0 0 0 16 2048", "T 2 0 0 0 0 0 0 0 0 0 32 2048 65535 65535",
+            "S 255 0 0 0 0 0 0 0 0 0 32 2048", "T 0 0 0 0 0 0 0 0 0 0 16 2048 65535 0"])
     yield ("a refused opening leaves the end as it was", sender(low=(9, 2), high=(6, 0), left=3, zeros=1, line=1, width=32)
            + receiver(settings=2, work=1, held=7, width=32, **IN_BLOCK) + open_sender(0, 24) + open_receiver(1, 33) + D,
-           ["R 3", "R 3", "S 3 9 2 6 0 3 1 1 0 0 32 2048", "T 2 1 1 8 2 1 2 1 0 0 32 2048"])
+           ["R 3", "R 3", "S 3 9 2 6 0 3 1 1 0 0 32 2048", told("2 1 1 8 2 1 2 1 0 0", 32)])
     yield ("a refused opening leaves a state out of bounds too", sender(low=(3, 9), left=255, width=24)
            + receiver(decoded=9999, refusal=77, width=0) + open_sender(0, 0) + open_receiver(1, 255) + D,
-           ["R 3", "R 3", "S 3 3 9 0 0 255 0 0 0 0 24 2048", "T 3 0 9999 0 0 0 0 0 0 77 0 2048"])
+           ["R 3", "R 3", "S 3 3 9 0 0 255 0 0 0 0 24 2048", "T 3 0 9999 0 0 0 0 0 0 77 0 2048 65535 0"])
     yield ("and goes on where it was", open_sender(3, 32) + load_low(hx("7E 7E")) + next_octets(3) + open_sender(0, 8)
            + next_octets(6) + open_receiver(3, 32) + receive(hx("07 00 00 BC")) + open_receiver(0, 64)
            + receive(hx("1A D8 47 7E")),
            ["D", *sent(hx("07 00 00")), "R 3", *sent(hx("BC 1A D8 47 7E")), "I", "R 3", "P 0 2 7E 7E"])
     yield ("the lengths lent play no part", lend((0, 0, 0, 0)) + open_sender(3, 32) + open_receiver(3, 16) + D
            + open_sender(3, 17) + open_receiver(3, 15) + WIDE_LENGTHS,
-           ["S 3 0 0 0 0 0 0 0 0 0 32 2048", "T 3 0 0 0 0 0 0 0 0 0 16 2048", "R 3", "R 3"])
+           ["S 3 0 0 0 0 0 0 0 0 0 32 2048", "T 3 0 0 0 0 0 0 0 0 0 16 2048 65535 0", "R 3", "R 3"])
     yield ("an opening ends what was there", sender(low=(9, 2), high=(6, 0), left=3, zeros=1, line=1, width=24)
            + receiver(work=1, held=7, width=24, **IN_BLOCK) + open_sender(3, 32) + open_receiver(3, 32) + D,
-           ["S 3 0 0 0 0 0 0 0 0 0 32 2048", "T 3 0 0 0 0 0 0 0 0 0 32 2048"])
+           ["S 3 0 0 0 0 0 0 0 0 0 32 2048", "T 3 0 0 0 0 0 0 0 0 0 32 2048 65535 65535"])
     for end in (open_sender, open_receiver):
         yield (f"every width, {end.__name__}", b"".join(end(0, width) for width in range(256)) + end(0, 16),
                ["R 3"] * 254)
@@ -882,7 +922,7 @@ def wrong_widths():
         state = f" {width} 2048"
         yield (f"{width}, fresh", sender(width=width) + load_low(TWO) + load_high(TWO) + next_octets(2)
                + receiver(width=width) + receive(hx("05 31 7E")) + D,
-               ["R 3"] * 7 + ["S 3" + " 0" * 9 + state, "T 3" + " 0" * 9 + state])
+               ["R 3"] * 7 + ["S 3" + " 0" * 9 + state, "T 3" + " 0" * 9 + state + " 65535 0"])
     for lengths in (lent(32), lent(16), (2049, 2049, 2050, 2050), (0, 0, 0, 0), (20480,) * 4):
         yield (f"24, areas of {lengths[0]} and {lengths[2]}", lend(lengths) + sender(width=24) + load_low(TWO)
                + load_high(b"") + next_octets(1) + receiver(width=24) + receive(FLAG) + D + show_sender() + show_receiver(),
@@ -894,9 +934,9 @@ def wrong_widths():
            + receiver(width=65296) + receive(hx("05 31 31 31 31 7E")) + D
            + sender(low=(5, 0), width=272) + next_octets(1) + receiver(width=65312) + receive(hx("05 31 31 31 31 7E")) + D
            + sender(width=280) + next_octets(1) + receiver(width=256) + receive(FLAG) + D,
-           ["O 07", "R 14", "S 3 6 0 0 0 6 1 1 0 0 32 2048", "T 3 0 0 0 0 0 0 0 0 0 16 2048",
-            "O 06", "R 13", "S 3 5 0 0 0 5 1 1 0 0 16 2048", "T 3 0 0 0 0 0 0 0 0 0 32 2048",
-            "R 3", "R 3", "S 3 0 0 0 0 0 0 0 0 0 24 2048", "T 3 0 0 0 0 0 0 0 0 0 0 2048"])
+           ["O 07", "R 14", "S 3 6 0 0 0 6 1 1 0 0 32 2048", "T 3 0 0 0 0 0 0 0 0 0 16 2048 65535 0",
+            "O 06", "R 13", "S 3 5 0 0 0 5 1 1 0 0 16 2048", "T 3 0 0 0 0 0 0 0 0 0 32 2048 65535 65535",
+            "R 3", "R 3", "S 3 0 0 0 0 0 0 0 0 0 24 2048", "T 3 0 0 0 0 0 0 0 0 0 0 2048 65535 0"])
 
 
 def wide_areas():
@@ -920,10 +960,10 @@ def wide_loads():
     longest = b"1" * 2048
     check = fcs(longest, 32).hex(" ").upper()
     yield ("F and nothing beyond", open_sender(3, 32) + fill(0, 0, hx("EE") * 12) + load_low(hx("00 00")) + show(0, 0, 8) + D,
-           ["D", "X 00 00 FF 12 D9 41 EE EE", "S 3 6 0 0 0 0 0 0 0 0 32 2048", "T 3 1 0 2 0 0 0 0 0 0 16 2048"])
+           ["D", "X 00 00 FF 12 D9 41 EE EE", "S 3 6 0 0 0 0 0 0 0 0 32 2048", told("3 1 0 2 0 0 0 0 0 0", held=b"1")])
     yield ("2,048 octets, area exactly long enough", open_sender(3, 32) + fill(1, 2040, hx("EE") * 20) + load_high(longest)
            + show(1, 2046, 8) + D,
-           ["D", f"X 31 31 {check} EE EE", "S 3 0 0 2052 0 0 0 0 0 0 32 2048", "T 3 1 0 2 0 0 0 0 0 0 16 2048"])
+           ["D", f"X 31 31 {check} EE EE", "S 3 0 0 2052 0 0 0 0 0 0 32 2048", told("3 1 0 2 0 0 0 0 0 0", held=b"1")])
     yield ("1: 0, 1 and 2,049 octets", open_sender(3, 32) + load_low(b"") + load_high(ONE) + load_low(b"1" * 2049),
            "R 1, R 1, R 1")
     yield "4", open_sender(3, 32) + load_low(TWO) + load_low(TWO) + load_high(TWO) + load_high(TWO), "D, R 4, D, R 4"
@@ -990,8 +1030,8 @@ def wide_limits():
         yield (f"not 10, {width} bits: two zeros up to {most}", before
                + receiver(decoded=most - 2, width=width, **IN_OTHER) + receive(hx("E0")) + shown + receive(FLAG),
                ["X EE 00 00 EE EE EE", "R 14"])
-        yield (f"10, {width} bits: D1 onto {most}", receiver(held=most, width=width) + receive(hx("D1 01 7E")), "R 10")
-        yield (f"not 10, {width} bits: D1 onto {most - 1}", receiver(held=most - 1, width=width) + receive(hx("D1 01 7E")),
+        yield (f"10, {width} bits: D1 onto {most}", holding(most, width=width) + receive(hx("D1 01 7E")), "R 10")
+        yield (f"not 10, {width} bits: D1 onto {most - 1}", holding(most - 1, width=width) + receive(hx("D1 01 7E")),
                "R 14")
         for run in range(0xD9, 0xE0):
             yield (f"DF 136 times and {run:02X}, {width} bits", open_receiver(3, width)
@@ -1058,14 +1098,14 @@ def wide_delivery():
     low, high = hx("41 42 43") + fcs(hx("41 42 43"), 32), hx("44 45") + fcs(hx("44 45"), 32)
     assert 0 not in low + high and FLAG[0] not in low + high
     urgent, rest = hx("07") + high + FLAG, hx("D1 07") + low[1:] + FLAG
-    idle = "S 3 0 0 0 0 0 0 0 0 0 32 2048"
+    idle, holds = "S 3 0 0 0 0 0 0 0 0 0 32 2048", told("3 1 0 2 0 0 0 0 0 0", 32, held=b"A")
     yield ("sent", open_sender(3, 32) + open_receiver(3, 32) + load_low(hx("41 42 43")) + next_octets(2) + D
            + load_high(hx("44 45")) + next_octets(1) + D + next_octets(len(urgent + rest) + 1),
-           ["D", "O 08", "O 41", "S 3 7 1 0 0 6 1 1 0 0 32 2048", "T 3 0 0 0 0 0 0 0 0 0 32 2048",
-            "D", "O 7E", "S 3 7 1 6 0 0 0 0 1 0 32 2048", "T 3 0 0 0 0 0 0 0 0 0 32 2048", *sent(urgent + rest), "I"])
+           ["D", "O 08", "O 41", "S 3 7 1 0 0 6 1 1 0 0 32 2048", "T 3 0 0 0 0 0 0 0 0 0 32 2048 65535 65535",
+            "D", "O 7E", "S 3 7 1 6 0 0 0 0 1 0 32 2048", "T 3 0 0 0 0 0 0 0 0 0 32 2048 65535 65535", *sent(urgent + rest), "I"])
     yield ("received", receive(hx("08 41 7E")) + D + receive(urgent) + D + receive(rest[:-1]) + D + receive(FLAG) + D,
-           ["H 1 0", idle, "T 3 1 0 2 0 0 0 0 0 0 32 2048", "P 1 2 44 45", idle, "T 3 1 0 2 0 0 0 0 0 0 32 2048",
-            idle, "T 3 0 8 0 0 0 2 1 1 0 32 2048", "P 0 3 41 42 43", idle, "T 3 0 0 0 0 0 0 0 0 0 32 2048"])
+           ["H 1 0", idle, holds, "P 1 2 44 45", idle, holds,
+            idle, "T 3 0 8 0 0 0 2 1 1 0 32 2048 65535 65535", "P 0 3 41 42 43", idle, "T 3 0 0 0 0 0 0 0 0 0 32 2048 65535 65535"])
     between = hx("D3 02 7E") + urgent + hx("D1 02 7E") + urgent + hx("D1")
     tail = hx("31 32") + fcs(hx("00 00 00 31 32"), 32)
     assert 0 not in tail and FLAG[0] not in tail
@@ -1089,7 +1129,8 @@ def wide_delivery():
     last = hx("02") + whole[-2:]
     yield ("the longest packet, all but its last octet held", open_receiver(3, 32)
            + receive(whole[:-2] + FLAG + urgent + hx("D1") + last) + D,
-           ["H 2051 0", "P 1 2 44 45", packet_line(0, longest), "S 3 0 0 0 0 0 0 0 0 0 32 2048", "T 3 0 0 0 0 0 0 0 0 0 32 2048"])
+           ["H 2051 0", "P 1 2 44 45", packet_line(0, longest), "S 3 0 0 0 0 0 0 0 0 0 32 2048",
+            "T 3 0 0 0 0 0 0 0 0 0 32 2048 65535 65535"])
 
 
 def wide_settings():
@@ -1099,7 +1140,7 @@ def wide_settings():
         yield (f"settings {settings:02X}", open_receiver(settings, 32)
                + receive(hx("D7 7E D1 01 7E 05 31 7E D2 7E FF 7E 01 7E")) + D,
                [f"R {14 if zxe else 6}", f"R {8 if pre else 6}", "H 1 0" if pre else "R 11", "R 7", "R 5", "R 13",
-                "S 3 0 0 0 0 0 0 0 0 0 32 2048", f"T {settings} {1 if pre else 0} 0 0 0 0 0 0 0 0 32 2048"])
+                "S 3 0 0 0 0 0 0 0 0 0 32 2048", f"T {settings} {1 if pre else 0} 0 0 0 0 0 0 0 0 32 2048 65535 65535"])
 
 
 WIDTH_TABLE = [
@@ -1172,7 +1213,7 @@ def limit_examples():
            + show(0, 16380, 9) + D,
            ["R 2", "R 1", "X EE EE EE EE EE EE EE EE EE", "D",
             f"X 41 41 41 41 {fcs(b'A' * LONGEST).hex(' ').upper()} EE EE EE",
-            "S 3 16386 0 0 0 0 0 0 0 0 16 16384", "T 3 0 0 0 0 0 0 0 0 0 32 2047"])
+            "S 3 16386 0 0 0 0 0 0 0 0 16 16384", "T 3 0 0 0 0 0 0 0 0 0 32 2047 65535 65535"])
     yield ("and its first octets and its last are sent", lend((16386, 16386, 0, 0)) + next_octets(3)
            + sender(low=(16386, 16353), line=1, limit=LONGEST) + next_octets(36),
            ["O D0", "O 41", "O 41", "O 22", *["O 41"] * 31, *sent(fcs(b"A" * LONGEST)), "O 7E", "I"])
@@ -1188,7 +1229,7 @@ def limit_openings():
     for limit in (2, 3, 4, 255, 256, 257, 2047, 2048, 2049, 16383, 16384):
         for width in WIDTHS:
             yield (f"limit {limit}, {width} bits", open_sender(1, width, limit) + open_receiver(2, width, limit) + D,
-                   [f"S 1 0 0 0 0 0 0 0 0 0 {width} {limit}", f"T 2 0 0 0 0 0 0 0 0 0 {width} {limit}"])
+                   [f"S 1 0 0 0 0 0 0 0 0 0 {width} {limit}", told("2 0 0 0 0 0 0 0 0 0", width, limit)])
     for limit in OUT_OF_RANGE:
         for end in ENDS:
             yield (f"{end.__name__}, limit {limit}, with 16 bits, 32, and wrong widths", b"".join(
@@ -1196,37 +1237,37 @@ def limit_openings():
     for end in ENDS:
         yield (f"{end.__name__}, wrong widths, good limits", b"".join(
             end(0, width, limit) for width in (0, 24, 255) for limit in (2, 3, 2048, 16384)), ", ".join(["R 3"] * 12))
-    yield ("none of these has left its mark", D, ["S 1 0 0 0 0 0 0 0 0 0 32 16384", "T 2 0 0 0 0 0 0 0 0 0 32 16384"])
+    yield ("none of these has left its mark", D, ["S 1 0 0 0 0 0 0 0 0 0 32 16384", "T 2 0 0 0 0 0 0 0 0 0 32 16384 65535 65535"])
     yield ("the low octet stands first", b"o" + hx("03 10 02 00") + b"O" + hx("03 20 00 02") + D + b"o" + hx("03 10 01 40")
            + b"O" + hx("03 20 40 01") + b"o" + hx("03 18 02 01") + D,
-           ["S 3 0 0 0 0 0 0 0 0 0 16 2", "T 3 0 0 0 0 0 0 0 0 0 32 512", "R 23", "R 3",
-            "S 3 0 0 0 0 0 0 0 0 0 16 2", "T 3 0 0 0 0 0 0 0 0 0 32 320"])
+           ["S 3 0 0 0 0 0 0 0 0 0 16 2", "T 3 0 0 0 0 0 0 0 0 0 32 512 65535 65535", "R 23", "R 3",
+            "S 3 0 0 0 0 0 0 0 0 0 16 2", "T 3 0 0 0 0 0 0 0 0 0 32 320 65535 65535"])
     yield ("a refused opening leaves the end as it was", sender(low=(9, 2), high=(6, 0), left=3, zeros=1, line=1, width=32, limit=9)
            + receiver(settings=2, work=1, held=7, limit=20, **IN_BLOCK) + open_sender(0, 16, 1) + open_receiver(1, 32, 16385)
            + open_sender(0, 24, 5) + open_receiver(1, 0, 5) + D,
-           ["R 23", "R 23", "R 3", "R 3", "S 3 9 2 6 0 3 1 1 0 0 32 9", "T 2 1 1 8 2 1 2 1 0 0 16 20"])
+           ["R 23", "R 23", "R 3", "R 3", "S 3 9 2 6 0 3 1 1 0 0 32 9", told("2 1 1 8 2 1 2 1 0 0", 16, 20)])
     yield ("a refused opening leaves a state out of bounds too", sender(low=(3, 9), left=255, width=24, limit=65535)
            + receiver(decoded=9999, refusal=77, width=0, limit=1) + open_sender(0, 16, 0) + open_receiver(1, 16, 65535) + D,
-           ["R 23", "R 23", "S 3 3 9 0 0 255 0 0 0 0 24 65535", "T 3 0 9999 0 0 0 0 0 0 77 0 1"])
+           ["R 23", "R 23", "S 3 3 9 0 0 255 0 0 0 0 24 65535", "T 3 0 9999 0 0 0 0 0 0 77 0 1 65535 0"])
     yield ("and goes on where it was", opened(16, 2) + load_low(TWO) + next_octets(2) + open_sender(0, 16, 1) + next_octets(5)
            + receive(hx("05 41 42")) + open_receiver(0, 16, 16385) + receive(hx("EF 31 7E")),
            ["D", *sent(hx("05 41")), "R 23", *sent(hx("42 EF 31 7E")), "I", "R 23", "P 0 2 41 42"])
     yield ("the lengths lent play no part", lend((0, 0, 0, 0)) + open_sender(3, 32, 16384) + open_receiver(3, 16, 2) + D
            + open_sender(3, 32, 16385) + open_receiver(3, 15, 1),
-           ["S 3 0 0 0 0 0 0 0 0 0 32 16384", "T 3 0 0 0 0 0 0 0 0 0 16 2", "R 23", "R 23"])
+           ["S 3 0 0 0 0 0 0 0 0 0 32 16384", "T 3 0 0 0 0 0 0 0 0 0 16 2 65535 0", "R 23", "R 23"])
     yield ("an opening ends what was there, and its limit", sender(low=(9, 2), high=(6, 0), left=3, zeros=1, line=1, limit=1)
            + receiver(work=1, held=7, limit=16385, **IN_BLOCK) + open_sender(3, 16, 7) + open_receiver(3, 32, 8) + D,
-           ["S 3 0 0 0 0 0 0 0 0 0 16 7", "T 3 0 0 0 0 0 0 0 0 0 32 8"])
+           ["S 3 0 0 0 0 0 0 0 0 0 16 7", "T 3 0 0 0 0 0 0 0 0 0 32 8 65535 65535"])
 
 
 def out_of_range():
     """A state with a limit out of range is refused 3, whatever else is wrong, and stays as it was."""
     for limit in OUT_OF_RANGE:
         for width, lengths in ((16, (20480,) * 4), (32, (20480,) * 4), (16, (0,) * 4), (24, (0,) * 4)):
-            state = f" 0 0 0 0 0 0 0 0 0 {width} {limit}"
+            numbers = "3 0 0 0 0 0 0 0 0 0"
             yield (f"limit {limit}, width {width}, areas of {lengths[0]}", lend(lengths) + sender(width=width, limit=limit)
                    + load_low(TWO) + load_high(TWO) + next_octets(2) + receiver(width=width, limit=limit)
-                   + receive(hx("05 31 7E")) + D, ["R 3"] * 7 + ["S 3" + state, "T 3" + state])
+                   + receive(hx("05 31 7E")) + D, ["R 3"] * 7 + [f"S {numbers} {width} {limit}", told(numbers, width, limit)])
         for lengths in ((20480,) * 4, (0,) * 4):
             yield (f"limit {limit}, areas of {lengths[0]}, states out of bounds, wrong packets", lend(lengths)
                    + sender(low=(3, 0), limit=limit) + load_low(ONE) + load_high(b"") + next_octets(1)
@@ -1268,7 +1309,7 @@ def limit_loads():
                + load_low(ONE) + load_low(b"A" * (limit + 1)) + show(0, limit - 2, 9) + load_low(longest)
                + show(0, limit - 2, width // 8 + 4) + D + load_low(TWO),
                ["R 1", "R 1", "R 1", "X" + " EE" * 9, "D", f"X 41 41 {check} EE EE",
-                f"S 3 {frame} 0 0 0 0 0 0 0 0 {width} {limit}", f"T 3 0 0 0 0 0 0 0 0 0 {width} {limit}", "R 4"])
+                f"S 3 {frame} 0 0 0 0 0 0 0 0 {width} {limit}", told("3 0 0 0 0 0 0 0 0 0", width, limit), "R 4"])
         yield f"limit {limit}, {width} bits, 2 octets, high", load_high(TWO) + load_high(TWO), "D, R 4"
     for limit in (4, 9, 255, 256, 257, 512):
         yield (f"limit {limit}, long areas: so many octets and one more", opened(16, limit) + lend((20480,) * 4)
@@ -1355,15 +1396,14 @@ def too_much():
         yield (f"limit {limit}, {width} bits: two zeros up to {most}", before
                + receiver(decoded=most - 2, **IN_OTHER, **agreed) + receive(hx("E0")) + shown + receive(FLAG),
                ["X EE 00 00 EE EE EE", "R 14"])
-        yield (f"limit {limit}, {width} bits: D1 onto {most} and onto {most - 1}", receiver(held=most, **agreed)
-               + receive(hx("D1 01 7E")) + fill(3, max(0, most - 7), hx("EE") * 12) + receiver(held=most - 1, **agreed)
-               + receive(hx("D1 01 7E")), "R 10, R 14")
+        yield (f"limit {limit}, {width} bits: D1 onto {most} and onto {most - 1}", holding(most, **agreed)
+               + receive(hx("D1 01 7E")) + holding(most - 1, **agreed) + receive(hx("D1 01 7E")), "R 10, R 14")
         yield (f"limit {limit}, {width} bits: {most} zeros, and one more", open_receiver(3, width, limit)
                + receive(hx("DF") * runs + bytes((last,)) + FLAG) + receive(hx("DF") * runs + bytes((last + 1,)) + FLAG),
                "R 14, R 10")
     yield ("limit 2: no more than its octets are written", opened(16, 2) + fill(2, 0, hx("EE") * 9)
            + receive(hx("D0 31 32 33 34 35 36 37 38")) + show(2, 0, 8) + D + receive(FLAG),
-           ["X 31 32 33 34 35 EE EE EE", "S 3 0 0 0 0 0 0 0 0 0 16 2", "T 3 0 5 0 0 0 0 1 0 10 16 2", "R 10"])
+           ["X 31 32 33 34 35 EE EE EE", "S 3 0 0 0 0 0 0 0 0 0 16 2", "T 3 0 5 0 0 0 0 1 0 10 16 2 65535 0", "R 10"])
     for width, limit in ((16, 204), (32, 202)):
         full = hx("D0") + b"1" * 207 + FLAG
         yield (f"12 from limit {limit} on, {width} bits; below it 10", opened(width, limit) + receive(full)
@@ -1401,28 +1441,29 @@ def longest_frames():
     for width in WIDTHS:
         yield (f"limit 2,048, {width} bits: one octet more", opened(width, 2048) + receive(line[2049, width]), "R 10")
         yield (f"limit 2,049, {width} bits: no octet too many", opened(width, 2049) + receive(line[2049, width][:-1]) + D,
-               [f"S 3 0 0 0 0 0 0 0 0 0 {width} 2049", f"T 3 0 {2050 + width // 8} 0 0 0 2 1 0 0 {width} 2049"])
+               [f"S 3 0 0 0 0 0 0 0 0 0 {width} 2049", told(f"3 0 {2050 + width // 8} 0 0 0 2 1 0 0", width, 2049)])
         yield (f"limit 16,384, {width} bits: one octet more", opened(width, LONGEST) + receive(line[LONGEST + 1, width]) + D,
-               ["R 10", f"S 3 0 0 0 0 0 0 0 0 0 {width} 16384", f"T 3 0 0 0 0 0 0 0 0 0 {width} 16384"])
+               ["R 10", f"S 3 0 0 0 0 0 0 0 0 0 {width} 16384", told("3 0 0 0 0 0 0 0 0 0", width, 16384)])
     yield ("limit 16,384, 16 bits: zeros received", opened(16, LONGEST) + spotted(2) + receive(line[LONGEST, 16]),
            packet_line(0, bytes(LONGEST)))
     yield ("limit 16,384, 32 bits: zeros, one octet more than can be loaded", opened(32, LONGEST)
            + spotted(1) + fill(1, LONGEST - 2, hx("EE") * 9) + load_high(bytes(LONGEST + 1)) + show(1, LONGEST - 2, 9) + D,
-           ["R 1", "X" + " EE" * 9, "S 3 0 0 0 0 0 0 0 0 0 32 16384", "T 3 0 0 0 0 0 0 0 0 0 32 16384"])
+           ["R 1", "X" + " EE" * 9, "S 3 0 0 0 0 0 0 0 0 0 32 16384", "T 3 0 0 0 0 0 0 0 0 0 32 16384 65535 65535"])
     yield ("limit 16,384, 32 bits: zeros, sent", load_high(bytes(LONGEST)) + show(1, LONGEST - 2, 9) + D
            + next_octets(len(line[LONGEST, 32]) + 1),
            ["D", f"X 00 00 {check[LONGEST, 32].hex(' ').upper()} EE EE EE", "S 3 0 0 16388 0 0 0 0 0 0 32 16384",
-            "T 3 0 0 0 0 0 0 0 0 0 32 16384", *sent(line[LONGEST, 32]), "I"])
+            "T 3 0 0 0 0 0 0 0 0 0 32 16384 65535 65535", *sent(line[LONGEST, 32]), "I"])
     yield ("limit 16,384, 32 bits: zeros received, in the second area", spotted(3) + receive(hx("05 31 7E"))
            + receive(line[LONGEST, 32]) + D,
            ["H 1 0", packet_line(1, bytes(LONGEST)),
-            "S 3 0 0 0 0 0 0 0 0 0 32 16384", "T 3 1 0 2 0 0 0 0 0 0 32 16384"])
+            "S 3 0 0 0 0 0 0 0 0 0 32 16384", told("3 1 0 2 0 0 0 0 0 0", 32, 16384, b"1")])
     yield "limit 16,383: the packet of 16,384", opened(32, 16383) + receive(line[LONGEST, 32]), "R 10"
 
 
 def limit_stays():
     """Both ends, limit 3. 41 42 43 (FCS 2F 9F) is broken off after 41 by 44 45 (FCS E8 3B), and resumed; then refusals."""
-    idle, fresh = "S 3 0 0 0 0 0 0 0 0 0 16 3", "T 3 0 0 0 0 0 0 0 0 0 16 3"
+    idle, fresh = "S 3 0 0 0 0 0 0 0 0 0 16 3", "T 3 0 0 0 0 0 0 0 0 0 16 3 65535 0"
+    holds = told("3 1 0 2 0 0 0 0 0 0", 16, 3, b"A")
     yield ("sent", opened(16, 3) + load_low(THREE) + D + next_octets(2) + D + load_high(hx("44 45")) + next_octets(1) + D
            + next_octets(6) + D + next_octets(8) + D,
            ["D", "S 3 5 0 0 0 0 0 0 0 0 16 3", fresh, "O 06", "O 41", "S 3 5 1 0 0 4 1 1 0 0 16 3", fresh,
@@ -1430,8 +1471,8 @@ def limit_stays():
             *sent(hx("D1 05 42 43 2F 9F 7E")), "I", idle, fresh])
     yield ("received", receive(hx("06 41")) + D + receive(FLAG) + D + receive(hx("05 44 45 E8 3B 7E")) + D
            + receive(hx("D1 05 42 43 2F 9F")) + D + receive(FLAG) + D,
-           [idle, "T 3 0 1 0 4 1 2 1 0 0 16 3", "H 1 0", idle, "T 3 1 0 2 0 0 0 0 0 0 16 3",
-            "P 1 2 44 45", idle, "T 3 1 0 2 0 0 0 0 0 0 16 3", idle, "T 3 0 6 0 0 0 2 1 1 0 16 3",
+           [idle, "T 3 0 1 0 4 1 2 1 0 0 16 3 65535 0", "H 1 0", idle, holds,
+            "P 1 2 44 45", idle, holds, idle, "T 3 0 6 0 0 0 2 1 1 0 16 3 65535 0",
             "P 0 3 41 42 43", idle, fresh])
     for line, answer in (("FF", "R 5"), ("D1 01", "R 8"), ("D2", "R 7"), ("D7", "R 10"), ("D3", "R 13"), ("D6", "R 14")):
         yield f"{line} refused", receive(hx(line) + FLAG) + D, [answer, idle, fresh]
@@ -1439,9 +1480,10 @@ def limit_stays():
         "R 1", "D", "R 4", "S 3 4 0 0 0 0 0 0 0 0 16 3", fresh]
     yield ("held as much as can be, and resumed", opened(16, 2) + receive(hx("07 41 42 EF 31 55 7E")) + D
            + receive(hx("D1 01 7E")) + D + receive(hx("05 41 42 EF 7E") + hx("05 44 45 E8 3B 7E") + hx("D1 02 31 7E")) + D,
-           ["H 5 0", "S 3 0 0 0 0 0 0 0 0 0 16 2", "T 3 1 0 6 0 0 0 0 0 0 16 2", "R 10", "S 3 0 0 0 0 0 0 0 0 0 16 2",
-            "T 3 0 0 0 0 0 0 0 0 0 16 2", "H 3 0", "P 1 2 44 45", "P 0 2 41 42", "S 3 0 0 0 0 0 0 0 0 0 16 2",
-            "T 3 0 0 0 0 0 0 0 0 0 16 2"])
+           ["H 5 0", "S 3 0 0 0 0 0 0 0 0 0 16 2", told("3 1 0 6 0 0 0 0 0 0", 16, 2, hx("41 42 EF 31 55")),
+            "R 10", "S 3 0 0 0 0 0 0 0 0 0 16 2",
+            "T 3 0 0 0 0 0 0 0 0 0 16 2 65535 0", "H 3 0", "P 1 2 44 45", "P 0 2 41 42", "S 3 0 0 0 0 0 0 0 0 0 16 2",
+            "T 3 0 0 0 0 0 0 0 0 0 16 2 65535 0"])
 
 
 def different_limits():
@@ -1489,9 +1531,9 @@ OTHER_BEGUN = hx("06 58 7E")
 RESTART = hx("FF 03 C0 21 7E")
 
 
-def state(numbers, width=16, limit=2048):
-    """The lines of `d`: an untouched sender, and the receiver by the ten numbers before width and limit."""
-    return [FRESH[0], f"T {numbers} {width} {limit}"]
+def state(numbers, width=16, limit=2048, held=None):
+    """The lines of `d`: an untouched sender, and the receiver as told."""
+    return [FRESH[0], told(numbers, width, limit, held)]
 
 
 def restart_examples():
@@ -1508,11 +1550,11 @@ def from_its_ff_on():
     """States straight after the FF, after more of its frame, and after its flag; the areas do not turn."""
     yield ("a fragment received, in the first area", open_receiver(3) + receive(hx("05 31 7E")) + D + receive(hx("FF")) + D
            + receive(hx("03")) + D + receive(FLAG) + D + receive(hx("D1")) + D + receive(FLAG) + D,
-           ["H 1 0", *state("3 1 0 2 0 0 0 0 0 0"), *state("3 1 0 0 0 0 0 1 0 5") * 2, "R 5", *state("3 1 0 0 0 0 0 0 0 0"),
+           ["H 1 0", *state("3 1 0 2 0 0 0 0 0 0", held=b"1"), *state("3 1 0 0 0 0 0 1 0 5") * 2, "R 5", *state("3 1 0 0 0 0 0 0 0 0"),
             *state("3 1 0 0 0 0 0 1 1 8"), "R 8", *state("3 1 0 0 0 0 0 0 0 0")])
     yield ("a fragment received, in the second area", open_receiver(3) + receive(hx("05 31 7E 05 32 33 7E")) + D
            + receive(hx("FF")) + D + receive(hx("03")) + D + receive(FLAG) + D + receive(hx("D1")) + D + receive(FLAG) + D,
-           ["H 1 0", "H 2 1", *state("3 0 0 3 0 0 0 0 0 0"), *state("3 0 0 0 0 0 0 1 0 5") * 2, "R 5",
+           ["H 1 0", "H 2 1", *state("3 0 0 3 0 0 0 0 0 0", held=b"23"), *state("3 0 0 0 0 0 0 1 0 5") * 2, "R 5",
             *state("3 0 0 0 0 0 0 0 0 0"), *state("3 0 0 0 0 0 0 1 1 8"), "R 8", *state("3 0 0 0 0 0 0 0 0 0")])
     for limit, width, _, most, *_ in BOUNDS:
         agreed = dict(width=width, limit=limit)
@@ -1539,23 +1581,23 @@ def restart_settings():
 def ff_elsewhere():
     """Where FF does not begin the frame it lets nothing go."""
     stays, gone = state("3 0 0 6 0 0 0 0 0 0"), state("3 1 0 0 0 0 0 0 0 0")
-    yield ("a later code", receiver(held=5) + receive(hx("01 FF")) + D + receive(FLAG) + D + receive(hx("D1 7E")) + D,
+    yield ("a later code", holding(5) + receive(hx("01 FF")) + D + receive(FLAG) + D + receive(hx("D1 7E")) + D,
            [*state("3 0 1 6 0 0 0 1 0 7"), "R 7", *stays, "R 9", *gone])
     yield ("a code behind data", receiver(held=5) + receive(hx("03 41 42 FF")) + D + receive(FLAG) + D,
            [*state("3 0 3 6 0 0 0 1 0 7"), "R 7", *stays])
     yield ("data, in a fragment", receiver(held=5) + receive(hx("05 FF FF")) + D + show(2, 0, 2) + receive(FLAG) + D,
-           [*state("3 0 2 6 2 1 2 1 0 0"), "X FF FF", "H 2 1", *state("3 1 0 3 0 0 0 0 0 0")])
+           [*state("3 0 2 6 2 1 2 1 0 0"), "X FF FF", "H 2 1", *state("3 1 0 3 0 0 0 0 0 0", held=hx("FF FF"))])
     yield ("the last data octet", receiver(held=5) + receive(hx("02 FF")) + D + receive(FLAG) + D,
            [*state("3 0 2 6 0 0 2 1 0 0"), "R 13", *stays])
     yield ("in the FCS", receiver(held=5) + receive(hx("05 00 00 6A FF 7E")) + D, ["P 0 2 7E 7E", *stays])
     for data in (hx("FF FF"), hx("FF 03 C0 21")):
         yield (f"in a packet, {data.hex(' ')}", receiver(held=5) + receive(plain_line(data, 16)) + D, [packet_line(0, data), *stays])
-    yield ("behind D1", receiver(held=5) + receive(hx("D1")) + D + receive(hx("FF")) + D + receive(FLAG) + D,
+    yield ("behind D1", holding(5) + receive(hx("D1")) + D + receive(hx("FF")) + D + receive(FLAG) + D,
            [*state("3 1 5 0 0 0 0 1 1 0"), *state("3 1 5 0 0 0 0 1 1 7"), "R 7", *gone])
-    yield ("behind D1 and a block", receiver(held=5) + receive(hx("D1 01 FF")) + D + receive(FLAG) + D,
+    yield ("behind D1 and a block", holding(5) + receive(hx("D1 01 FF")) + D + receive(FLAG) + D,
            [*state("3 1 6 0 0 0 0 1 1 7"), "R 7", *gone])
-    yield ("behind D1, as data", receiver(held=5) + receive(hx("D1 03 FF")) + D + show(3, 5, 1) + receive(FLAG) + D,
-           [*state("3 1 6 0 1 1 2 1 1 0"), "X FF", "H 6 0", *state("3 0 0 7 0 0 0 0 0 0")])
+    yield ("behind D1, as data", holding(5) + receive(hx("D1 03 FF")) + D + show(3, 5, 1) + receive(FLAG) + D,
+           [*state("3 1 6 0 1 1 2 1 1 0"), "X FF", "H 6 0", *state("3 0 0 7 0 0 0 0 0 0", held=ramp(5) + hx("FF"))])
     yield ("behind D1 that is refused 8", open_receiver(3) + receive(hx("D1 FF")) + D + receive(FLAG) + D,
            [*state("3 0 0 0 0 0 0 1 1 8"), "R 8", *state("3 0 0 0 0 0 0 0 0 0")])
     yield ("behind D1 that is refused 6", receiver(settings=1, held=5) + receive(hx("D1 FF")) + D + receive(FLAG) + D,
@@ -1566,8 +1608,9 @@ def ff_elsewhere():
            + receive(FLAG) + D, [*state("3 0 3 6 0 0 0 1 1 7"), "R 7", *state("3 0 0 0 0 0 0 0 0 0")])
     yield ("handed in: between blocks", receiver(decoded=3, held=5, **IN_OTHER) + receive(hx("FF")) + D + receive(FLAG) + D,
            [*state("3 0 3 6 0 0 0 1 0 7"), "R 7", *stays])
-    yield ("handed in: in a block", receiver(decoded=3, held=5, left=2, zeros=1, **IN_OTHER) + receive(hx("FF")) + D
-           + receive(FLAG) + D, [*state("3 0 4 6 1 1 2 1 0 0"), "H 4 1", *state("3 1 0 5 0 0 0 0 0 0")])
+    yield ("handed in: in a block", fill(2, 0, THREE) + receiver(decoded=3, held=5, left=2, zeros=1, **IN_OTHER)
+           + receive(hx("FF")) + D + receive(FLAG) + D,
+           [*state("3 0 4 6 1 1 2 1 0 0"), "H 4 1", *state("3 1 0 5 0 0 0 0 0 0", held=THREE + hx("FF"))])
     yield ("behind flags alone it begins a frame", receiver(held=5) + receive(hx("7E 7E")) + D + receive(hx("FF")) + D
            + receive(hx("7E 7E FF 7E")) + D,
            [*stays, *state("3 0 0 0 0 0 0 1 0 5"), "R 5", "R 5", *state("3 0 0 0 0 0 0 0 0 0")])
@@ -1594,7 +1637,7 @@ def after_first(octet, settings):
 def every_first_octet():
     for settings in (0, 3):
         yield (f"settings {settings:02X}", b"".join(
-            receiver(settings=settings, held=3) + receive(bytes((octet,))) + D for octet in range(256)),
+            holding(3, settings=settings) + receive(bytes((octet,))) + D for octet in range(256)),
             [line for octet in range(256) for line in state(after_first(octet, settings))])
 
 
@@ -1628,8 +1671,8 @@ def remembered():
                ["R 3", *state(f"{settings} 0 0 4 0 0 0 1 0 5"), "R 5", *state(f"{settings} 0 0 0 0 0 0 0 0 0")])
     yield ("5, something held, whatever the octet", b"".join(
         receiver(held=3, frame=1, refusal=5) + receive(bytes((octet,))) for octet in range(256)), ", ".join(["R 3"] * 256))
-    yield ("261 counts as 5", hand_receiver((3, 0, 0, 1, 0, 0, 0, 1, 0, 261, 16, 2048)) + receive(FLAG)
-           + hand_receiver((3, 0, 0, 0, 0, 0, 0, 1, 0, 261, 16, 2048)) + receive(FLAG), "R 3, R 5")
+    yield ("261 counts as 5", hand_receiver((3, 0, 0, 1, 0, 0, 0, 1, 0, 261, 16, 2048, 65535, 0)) + receive(FLAG)
+           + hand_receiver((3, 0, 0, 0, 0, 0, 0, 1, 0, 261, 16, 2048, 65535, 0)) + receive(FLAG), "R 3, R 5")
     yield ("4 and 11 stay out of bounds, nothing held too", b"".join(
         receiver(held=held, frame=1, refusal=refusal) + receive(FLAG) for refusal in (4, 11) for held in (None, 3)),
         "R 3, R 3, R 3, R 3")
@@ -1672,9 +1715,9 @@ def after_a_restart():
         yield line("the rest of the packet comes", BEGUN + RESTART + REST, "H 1 0, R 5, R 8")
         yield line("D2 in its place", BEGUN + hx("D2 7E") + REST, f"H 1 0, R 7, P {a} {three}")
         yield line("nothing in its place", BEGUN + REST, f"H 1 0, P {a} {three}")
-        yield line("a new fragment", BEGUN + RESTART + BEGUN, ["H 1 0", "R 5", "H 1 0", *state(f"3 {a} 0 2 0 0 0 0 0 0")])
+        yield line("a new fragment", BEGUN + RESTART + BEGUN, ["H 1 0", "R 5", "H 1 0", *state(f"3 {a} 0 2 0 0 0 0 0 0", held=b"A")])
         yield line("a new fragment, D2 in its place", BEGUN + hx("D2 7E") + BEGUN,
-                   ["H 1 0", "R 7", "H 1 1", *state(f"3 {a} 0 2 0 0 0 0 0 0")])
+                   ["H 1 0", "R 7", "H 1 1", *state(f"3 {a} 0 2 0 0 0 0 0 0", held=b"A")])
         yield line("a new fragment and its rest", BEGUN + RESTART + BEGUN + REST, f"H 1 0, R 5, H 1 0, P {b} {three}")
         yield line("8, a new fragment and its rest", BEGUN + RESTART + REST + BEGUN + REST,
                    f"H 1 0, R 5, R 8, H 1 0, P {b} {three}")
@@ -1719,7 +1762,7 @@ def restart_agreed():
             runs = 136 if limit == 2048 else 1092
             yield (f"limit {limit}, {width} bits: a long fragment", fresh + receive(hx("DF") * runs + hx("05 31 7E")) + D
                    + receive(hx("FF")) + D + receive(FLAG) + receive(hx("D1 01 7E")),
-                   [f"H {15 * runs + 1} 0", *state(f"3 1 0 {15 * runs + 2} 0 0 0 0 0 0", width, limit),
+                   [f"H {15 * runs + 1} 0", *state(f"3 1 0 {15 * runs + 2} 0 0 0 0 0 0", width, limit, bytes(15 * runs) + b"1"),
                     *state("3 1 0 0 0 0 0 1 0 5", width, limit), "R 5", "R 8"])
 
 
@@ -1731,7 +1774,7 @@ def others_stay():
             (12, 3, "D0" + "31" * 207), (12, 0, "D0" + "31" * 207), (13, 3, "D3"), (13, 0, "01"), (14, 3, "D5")):
         for work in (0, 1):
             yield (f"{number}, settings {settings:02X}, {line[:18]}, area {work} works",
-                   receiver(settings=settings, work=work, held=5) + receive(hx(line) + FLAG) + D + receive(hx("D1 7E")) + D,
+                   holding(5, work, settings=settings) + receive(hx(line) + FLAG) + D + receive(hx("D1 7E")) + D,
                    [f"R {number}", *state(f"{settings} {work} 0 6 0 0 0 0 0 0"),
                     *(["R 9", *state(f"{settings} {1 - work} 0 0 0 0 0 0 0 0")] if settings & 2 else
                       ["R 6", *state(f"{settings} {work} 0 0 0 0 0 0 0 0")])])
@@ -1742,11 +1785,11 @@ def others_stay():
     yield ("10, before the flag", receiver(held=5) + receive(hx("DF") * 137) + D, state("3 0 2040 6 0 0 0 1 0 10"))
     yield "delivered", receiver(held=5) + receive(URGENT) + D, ["P 0 2 44 45", *state("3 0 0 6 0 0 0 0 0 0")]
     yield "8", open_receiver(3) + receive(hx("D1 01 7E")) + D, ["R 8", *state("3 0 0 0 0 0 0 0 0 0")]
-    yield ("9", receiver(held=5) + receive(hx("D1")) + D + receive(FLAG) + D,
+    yield ("9", holding(5) + receive(hx("D1")) + D + receive(FLAG) + D,
            [*state("3 1 5 0 0 0 0 1 1 0"), "R 9", *state("3 1 0 0 0 0 0 0 0 0")])
     for limit, width, _, most, runs, last in BOUNDS:
         zeros = hx("DF") * runs
-        yield (f"limit {limit}, {width} bits, {most} held", lend(lent(width, limit)) + receiver(held=most, width=width, limit=limit)
+        yield (f"limit {limit}, {width} bits, {most} held", lend(lent(width, limit)) + holding(most, width=width, limit=limit)
                + receive(hx("D2 7E") + hx("01 7E") + zeros + bytes((last, 0x7E)) + zeros + bytes((last + 1, 0x7E))) + D
                + receive(hx("D1 7E")), ["R 7", "R 13", "R 14", "R 10", *state(f"3 0 0 {most + 1} 0 0 0 0 0 0", width, limit), "R 9"])
 
@@ -1796,6 +1839,453 @@ RESTART_TABLE = [
 ]
 
 
+# ------------------------------------------------------------------------------------------------
+# The table of the script areas: document 02, slip 8
+# ------------------------------------------------------------------------------------------------
+
+# 31 32 is held by BROKEN; its register at either width, and the rest of the packet 31 32, by its FCS.
+HELD, BROKEN = hx("31 32"), hx("05 31 32 7E")
+REGISTER = {16: 0x4D53, 32: 0xB0ACBB32}
+REST_OF_HELD = {16: hx("D1 03 AC B2 7E"), 32: hx("D1 05 CD 44 53 4F 7E")}
+ZEROS = {16: hx("E0 03 47 0F 7E"), 32: hx("E0 05 FF 12 D9 41 7E")}  # packet 00 00
+
+
+def area_opened(width, limit=2048):
+    return open_receiver(3, width, limit) + lend(lent(width, limit))
+
+
+def gone(work, width=16, limit=2048, settings=3):
+    """The lines of `d` out of a frame with nothing held."""
+    return state(f"{settings} {work} 0 0 0 0 0 0 0 0", width, limit)
+
+
+def kept(work, held, width=16, limit=2048, settings=3):
+    """The same with these octets held."""
+    return state(f"{settings} {work} 0 {len(held) + 1} 0 0 0 0 0 0", width, limit, held)
+
+
+def changed(work, width=16, limit=2048, settings=3):
+    """The lines of `d` from a D1 refused 21 to its flag."""
+    return state(f"{settings} {work} 0 0 0 0 0 1 1 21", width, limit)
+
+
+def area_examples():
+    """The table of examples that goes with the slip's readings, row by row; settings 03, 16 bits and, where it makes sense,
+    32."""
+    for width, holds, fresh in ((16, "16 2048 19795 0", "16 2048 65535 0"), (32, "32 2048 47922 45228", "32 2048 65535 65535")):
+        assert halves(REGISTER[width]) == tuple(map(int, holds.split()[2:])) and register_over(HELD, width) == REGISTER[width]
+        yield (f"{width} bits: 05 31 32", area_opened(width) + receive(BROKEN) + D,
+               ["H 2 0", FRESH[0], f"T 3 1 0 3 0 0 0 0 0 0 {holds}"])
+        yield (f"{width} bits: octet 1 changed to 33, then D1", fill(2, 1, hx("33")) + receive(hx("D1")) + D,
+               [FRESH[0], f"T 3 1 0 0 0 0 0 1 1 21 {fresh}"])
+        yield f"{width} bits: then 03 37 38", receive(hx("03 37 38 7E")), "R 21"
+        yield (f"{width} bits: octet 2 changed, then D1 01", area_opened(width) + receive(BROKEN) + fill(2, 2, hx("33"))
+               + receive(hx("D1 01 7E")), "H 2 0, R 13")
+        yield (f"{width} bits: a packet delivered in between", area_opened(width) + receive(BROKEN + ZEROS[width]) + D,
+               ["H 2 0", "P 1 2 00 00", FRESH[0], f"T 3 1 0 3 0 0 0 0 0 0 {holds}"])
+    yield "areas for 16 bits and 2,048", DEFAULT_LENGTHS, []
+    yield "no octets held, register 1234: D1", receiver(held=0, register=0x1234) + receive(hx("D1 7E")), "R 21"
+    yield ("nothing held, register 1234: any call", receiver(register=0x1234) + receive(hx("7E 31 D1 FF 05")),
+           "R 3, R 3, R 3, R 3, R 3")
+    yield "1 held, register 10000", receiver(held=1, register=0x10000) + receive(FLAG), "R 3"
+    yield ("settings 01, 1 held: D1", receiver(settings=1, held=1) + receive(hx("D1 7E")) + D,
+           ["R 6", FRESH[0], "T 1 0 0 0 0 0 0 0 0 0 16 2048 65535 0"])
+
+
+def registers_held():
+    """What register a Held report leaves: that of all octets decoded, in either area, also of zeros and of a resumed frame."""
+    full = b"1" * 207
+    for width in WIDTHS:
+        for work in (0, 1):
+            def line(name, octets, answers, held, turns=1, width=width, work=work):
+                return (f"{width} bits, area {work} works: {name}", receiver(work=work, width=width) + receive(octets) + D,
+                        [*answers, *kept((work + turns) % 2, held, width)])
+
+            yield f"areas for {width} bits, area {work}", lend(lent(width)), []
+            yield line("no octets", hx("05 7E"), ["H 0 0"], b"")
+            yield line("one", hx("05 31 7E"), ["H 1 0"], b"1")
+            yield line("two", BROKEN, ["H 2 0"], HELD)
+            yield line("zeros before a block", hx("D3 03 41 7E"), ["H 4 0"], hx("00 00 00 41"))
+            yield line("zeros alone, cut by 02", hx("DF 02 7E"), ["H 15 0"], bytes(15))
+            yield line("the zeros of a block before", hx("02 41 E1 42 05 43 7E"), ["H 6 0"], hx("41 00 42 00 00 43"))
+            yield line("00 for 7E", hx("05 00 31 7E"), ["H 2 0"], hx("7E 31"))
+            yield line("a full block before", hx("D0") + full + hx("05 32 7E"), ["H 208 0"], full + b"2")
+            yield line("a full block but for one octet", hx("D0") + full[1:] + FLAG, ["H 206 0"], full[1:])
+            yield line("replaced", BROKEN + hx("05 33 7E"), ["H 2 0", "H 1 1"], b"3", 2)
+            yield line("replaced by no octets", BROKEN + hx("05 7E"), ["H 2 0", "H 0 1"], b"", 2)
+            yield line("replaced by the same", BROKEN * 2, ["H 2 0", "H 2 1"], HELD, 2)
+            yield line("replaced twice", BROKEN + hx("05 33 7E 05 34 35 36 7E"), ["H 2 0", "H 1 1", "H 3 1"], b"456", 3)
+            yield line("held again by a resumed frame", BROKEN + hx("D1 05 33 7E"), ["H 2 0", "H 3 0"], b"123")
+            yield line("held again, nothing more", BROKEN + hx("D1 02 7E"), ["H 2 0", "H 2 0"], HELD)
+            yield line("held three times", BROKEN + hx("D1 05 33 7E D1 E0 04 34 7E"), ["H 2 0", "H 3 0", "H 6 0"], b"123\0\0004")
+            yield line("held again, no octets before", hx("05 7E D1 05 33 7E"), ["H 0 0", "H 1 0"], b"3")
+            yield line("held, taken up and gone, held", BROKEN + REST_OF_HELD[width] + hx("05 34 7E"),
+                       ["H 2 0", f"P {work} 2 31 32", "H 1 0"], b"4")
+    yield "areas for 16 bits and 2,048", DEFAULT_LENGTHS, []
+    yield ("handed in: of what lies in the work area", fill(2, 0, THREE) + receiver(decoded=3, left=2, zeros=1, **IN_OTHER)
+           + receive(FLAG) + D, ["H 3 0", *kept(1, THREE)])
+    yield ("handed in: replaces what is held", receiver(decoded=2, held=9, left=2, **IN_OTHER) + receive(FLAG) + D,
+           ["H 2 1", *kept(1, TWO)])
+    yield ("handed in: resumed, with something held", receiver(decoded=1, held=9, left=2, resumed=1, **IN_OTHER) + receive(FLAG)
+           + D, ["H 1 0", *kept(1, ONE)])
+    yield ("handed in: zeros due are not decoded", receiver(decoded=3, left=1, zeros=2, **IN_OTHER) + receive(FLAG) + D,
+           ["H 3 0", *kept(1, THREE)])
+
+
+def lets_go():
+    """Each way to let go what is held, from the octet on that does; the register goes to its start with it."""
+    full, longest = "D0" + "31" * 207, "DF" * 137
+    for width in WIDTHS:
+        for work in (0, 1):
+            holds, name, other = holding(HELD, work, width=width), f"{width} bits, area {work} works", 1 - work
+
+            def taken(more, decoded, last=0, refusal=0, width=width, other=other):
+                return state(f"3 {other} {decoded} 0 {more} {last} 1 1 {refusal}", width)
+
+            yield f"{name}: areas", lend(lent(width)), []
+            yield (f"{name}: FF", holds + D + receive(hx("FF")) + D + receive(FLAG) + D,
+                   [*kept(work, HELD, width), *state(f"3 {work} 0 0 0 0 0 1 0 5", width), "R 5", *gone(work, width)])
+            yield (f"{name}: D1 alone, 9", holds + receive(hx("D1")) + D + receive(FLAG) + D,
+                   [*taken("0 0", 2), "R 9", *gone(other, width)])
+            yield (f"{name}: D1, delivered", holds + receive(REST_OF_HELD[width][:-1]) + D + receive(FLAG) + D,
+                   [*taken("0 0", 3 + width // 8, 2), f"P {other} 2 31 32", *gone(other, width)])
+            for number, line, decoded, last in ((7, "D2", 2, 0), (10, longest, 2042, 0), (12, full, 209, 1), (13, "01", 3, 2),
+                                                (14, "D5", 7, 2)):
+                yield (f"{name}: D1, refused {number}", holds + receive(hx("D1" + line)) + D + receive(FLAG) + D,
+                       [*taken("0 0", decoded, last, number if number in (7, 10) else 0), f"R {number}", *gone(other, width)])
+            yield (f"{name}: D1, then a code that is not agreed", holding(HELD, work, width=width, settings=2)
+                   + receive(hx("D1 E0")) + D + receive(FLAG) + D,
+                   [*state(f"2 {other} 2 0 0 0 0 1 1 6", width), "R 6", *gone(other, width, settings=2)])
+            yield (f"{name}: D1, inside a block", holds + receive(hx("D1 05 33")) + D + receive(FLAG) + D,
+                   [*taken("3 1", 3, 2), "H 3 0", *kept(work, b"123", width)])
+            yield (f"{name}: D1 without PRE, at its flag", holding(HELD, work, width=width, settings=1) + receive(hx("D1")) + D
+                   + receive(hx("03 31")) + D + receive(FLAG) + D,
+                   [*state(f"1 {work} 0 3 0 0 0 1 1 6", width, held=HELD) * 2, "R 6", *gone(work, width, settings=1)])
+            yield (f"{name}: D1, an octet changed", holds + fill(3 - work, 0, b"0") + receive(hx("D1")) + D + receive(FLAG) + D,
+                   [*changed(work, width), "R 21", *gone(work, width)])
+            yield (f"{name}: opened anew", holds + open_receiver(3, width) + D, gone(0, width))
+            yield (f"{name}: opened anew with the other width", holds + open_receiver(3, 48 - width) + D, gone(0, 48 - width))
+            inside = dict(work=work, held=HELD, width=width, resumed=1)
+            yield (f"{name}: handed in, a resumed frame that holds something, at its flag", b"".join(
+                receiver(**inside, **more) + receive(FLAG) + D for more in (
+                    dict(decoded=1, **IN_OTHER), dict(frame=1), dict(frame=1, last=1), dict(frame=1, refusal=7),
+                    dict(frame=1, refusal=21))),
+                [line for number in (13, 9, 12, 7, 21) for line in (f"R {number}", *gone(work, width))])
+            yield (f"{name}: handed in, the same without PRE, inside a block", receiver(
+                settings=0, decoded=1, left=2, **IN_OTHER, **inside) + receive(FLAG) + D, ["R 11", *gone(work, width, settings=0)])
+            whole = HELD + fcs(HELD, width)
+            yield (f"{name}: handed in, the same, delivered", fill(2 + work, 0, whole + b"\0")
+                   + receiver(decoded=len(whole) + 1, **IN_OTHER, **inside) + receive(FLAG) + D,
+                   [packet_line(work, HELD), *gone(work, width)])
+
+
+def leaves_it():
+    """What is not resumed, and every flag of it, leaves held count and register; a D1 is accepted after it."""
+    for width in WIDTHS:
+        yield f"{width} bits: areas", lend(lent(width)), []
+        for name, settings, line, answer in (
+                ("delivered", 3, ZEROS[width][:-1], "P"), ("6, no ZXE", 2, hx("E0"), "R 6"), ("7", 3, hx("D2"), "R 7"),
+                ("10", 3, hx("DF") * 137, "R 10"), ("12", 3, hx("D0") + b"1" * 207, "R 12"), ("13", 3, hx("01"), "R 13"),
+                ("14", 3, hx("D7"), "R 14"), ("empty", 3, b"", None), ("empty, three times", 3, hx("7E 7E"), None),
+                ("11, no PRE", 1, hx("05 31"), "R 11"), ("7, no PRE", 0, hx("D2"), "R 7")):
+            for work in (0, 1):
+                answers = [f"P {work} 2 00 00"] if answer == "P" else [answer] if answer else []
+                after = ["R 9", *gone(1 - work, width, settings=settings)] if settings & 2 else [
+                    "R 6", *gone(work, width, settings=settings)]
+                yield (f"{width} bits, area {work} works: {name}", holding(HELD, work, width=width, settings=settings)
+                       + receive(line + FLAG) + D + receive(hx("D1 7E")) + D,
+                       [*answers, *kept(work, HELD, width, settings=settings), *after])
+        yield (f"{width} bits: several frames, and the rest", area_opened(width) + receive(
+            BROKEN + ZEROS[width] + hx("D2 7E 7E 7E 01 7E") + ZEROS[width]) + D + receive(REST_OF_HELD[width]) + D,
+            ["H 2 0", "P 1 2 00 00", "R 7", "R 13", "P 1 2 00 00", *kept(1, HELD, width), "P 0 2 31 32", *gone(0, width)])
+        inside = (("03", "3 0 0 3 2 1 2 1 0 0"), ("41", "3 0 1 3 1 1 2 1 0 0"), ("42", "3 0 3 3 0 0 2 1 0 0"),
+                  ("E0", "3 0 5 3 0 0 2 1 0 0"), ("FF", "3 0 5 3 0 0 0 1 0 7"), ("31", "3 0 5 3 0 0 0 1 0 7"))
+        yield (f"{width} bits: octet by octet inside a frame", holding(HELD, width=width)
+               + b"".join(receive(hx(octet)) + D for octet, _ in inside) + receive(FLAG) + D,
+               [*(line for _, numbers in inside for line in state(numbers, width, held=HELD)), "R 7", *kept(0, HELD, width)])
+        yield (f"{width} bits: a register that is not of what is held stays too", receiver(held=HELD, width=width, register=0x1234)
+               + receive(hx("D2 7E")) + receive(ZEROS[width]) + D + receive(hx("D1 7E")),
+               ["R 7", "P 0 2 00 00", FRESH[0], f"T 3 0 0 3 0 0 0 0 0 0 {width} 2048 4660 0", "R 21"])
+
+
+def changes():
+    """An area is changed between a Held report and the D1. 31 32 33 34 are held."""
+    held = b"1234"
+    for width in WIDTHS:
+        yield f"{width} bits: areas", lend(lent(width)), []
+        for work in (0, 1):
+            area, other = 2 + work, 3 - work
+
+            def line(name, change, taken, width=width, work=work):
+                """After the D1 and its flag: accepted, or 21."""
+                answers = ([*state(f"3 {work} 4 0 0 0 0 1 1 0", width), "R 9", *gone(work, width)] if taken else
+                           [*changed(1 - work, width), "R 21", *gone(1 - work, width)])
+                return (f"{width} bits, held in area {work}: {name}", receiver(work=work, width=width)
+                        + receive(hx("06") + held + FLAG) + change + receive(hx("D1")) + D + receive(FLAG) + D, ["H 4 0", *answers])
+
+            yield line("nothing", b"", True)
+            for at in range(4):
+                yield line(f"octet {at}", fill(area, at, hx("00")), False)
+            yield line("one bit of the first", fill(area, 0, hx("30")), False)
+            yield line("one bit of the last", fill(area, 3, hx("B4")), False)
+            yield line("two octets swapped", fill(area, 1, b"32"), False)
+            yield line("all", fill(area, 0, b"abcd"), False)
+            yield line("all zeros", fill(area, 0, bytes(4)), False)
+            yield line("one later", fill(area, 0, b"\x311234"), False)
+            yield line("the octet behind", fill(area, 4, hx("FF")), True)
+            yield line("all behind", fill(area, 4, hx("EE") * 2060), True)
+            yield line("to the same octets", fill(area, 0, held), True)
+            yield line("and changed back", fill(area, 2, hx("00")) + fill(area, 2, held[2:3]), True)
+            yield line("the other area's first octets", fill(other, 0, b"abcd"), True)
+            yield line("the other area, all of it", fill(other, 0, hx("EE") * 2060), True)
+            yield line("the last held octet and the one behind", fill(area, 3, hx("00 00")), False)
+            yield line("the sender's areas", fill(0, 0, hx("EE") * 8) + fill(1, 0, hx("EE") * 8), True)
+            yield line("a call in between", fill(area, 0, hx("30")) + receive(FLAG), False)
+            yield line("the first octet, and the work area has what was held", fill(area, 0, hx("30")) + fill(other, 0, held), False)
+        # Other octets that give the same register are taken: what lies there is what is resumed.
+        before, after = (with_check(data, width, fcs(HELD, width)) for data in (b"AA", b"BB"))
+        assert before != after and register_over(before, width) == register_over(after, width) == REGISTER[width]
+        yield (f"{width} bits: other octets of the same register", holding(before, width=width) + fill(3, 0, after)
+               + receive(REST_OF_HELD[width]) + D, [packet_line(1, after), *gone(1, width)])
+        bits = [(at, bit) for at in range(2) for bit in range(8)]
+        yield (f"{width} bits: each bit", b"".join(holding(HELD, width=width) + fill(3, at, bytes((HELD[at] ^ 1 << bit,)))
+                                                  + receive(hx("D1 7E")) for at, bit in bits), ", ".join(["R 21"] * 16))
+        yield (f"{width} bits: each bit of the octet behind", b"".join(
+            holding(HELD, width=width) + fill(3, 2, bytes((1 << bit,))) + receive(hx("D1 7E")) for bit in range(8)),
+            ", ".join(["R 9"] * 8))
+        yield (f"{width} bits: each bit of the register", b"".join(
+            holding(HELD, width=width, register=REGISTER[width] ^ 1 << bit) + receive(hx("D1 7E")) for bit in range(width)),
+            ", ".join(["R 21"] * width))
+        for name, register in (("complemented", REGISTER[width] ^ 2 ** width - 1), ("at its start", 2 ** width - 1), ("0", 0),
+                               ("of one octet less", register_over(HELD[:1], width)),
+                               ("of one octet more", register_over(HELD + b"\0", width)),
+                               ("of the other width", REGISTER[48 - width] % 2 ** width),
+                               ("with its octets turned", int.from_bytes(REGISTER[width].to_bytes(width // 8, "big"), "little"))):
+            yield (f"{width} bits: register {name}", fill(3, 2, b"\0") + holding(HELD, width=width, register=register)
+                   + receive(hx("D1 7E")) + D, ["R 21", *gone(0, width)])
+
+
+def no_octets_held():
+    """A fragment of no octets has the start value; with any other the D1 is refused 21."""
+    for width in WIDTHS:
+        start = 2 ** width - 1
+        yield f"{width} bits: areas", lend(lent(width)) + fill(2, 0, b"abc") + fill(3, 0, b"abc"), []
+        for work in (0, 1):
+            yield (f"{width} bits, area {work} works: accepted", receiver(work=work, held=0, width=width) + receive(hx("D1")) + D
+                   + receive(FLAG) + D, [*state(f"3 {1 - work} 0 0 0 0 0 1 1 0", width), "R 9", *gone(1 - work, width)])
+            for register in (0, 1, 0x1234, start - 1, start >> 1, start ^ 0x8000):
+                yield (f"{width} bits, area {work} works, register {register:X}", receiver(
+                    work=work, held=0, width=width, register=register) + receive(hx("D1")) + D + receive(FLAG) + D,
+                    [*changed(work, width), "R 21", *gone(work, width)])
+        yield (f"{width} bits: held, the areas changed, accepted", area_opened(width) + receive(hx("05 7E")) + fill(2, 0, b"xyz")
+               + fill(3, 0, b"xyz") + receive(hx("D1 01 7E")), "H 0 0, R 13")
+
+
+def after_21():
+    """21 and what follows: in its frame all octets are skipped, nothing is written, the areas do not turn."""
+    for width in WIDTHS:
+        yield f"{width} bits: areas", lend(lent(width)), []
+        for work in (0, 1):
+            name, wrong = f"{width} bits, area {work} works", holding(HELD, work, width=width) + fill(3 - work, 0, b"0")
+            here = changed(work, width)
+            for line in ("03 37 38", "FF", "D1", "D2", "D1 D1", "00", "05 31", "DF" * 140, "D0" + "31" * 207):
+                yield (f"{name}: {line[:18]}", wrong + receive(hx("D1")) + D + receive(hx(line)) + D + receive(FLAG) + D,
+                       [*here, *here, "R 21", *gone(work, width)])
+            yield (f"{name}: 21 once, then 8", wrong + receive(hx("D1 7E D1 7E D1 01 7E 7E D1 FF 7E")) + D,
+                   ["R 21", "R 8", "R 8", "R 8", *gone(work, width)])
+            yield (f"{name}: the octets put back too late", wrong + receive(hx("D1")) + fill(3 - work, 0, HELD) + receive(FLAG)
+                   + receive(REST_OF_HELD[width]), "R 21, R 8")
+            yield (f"{name}: then a packet", wrong + receive(hx("D1 7E") + ZEROS[width]), f"R 21, P {work} 2 00 00")
+            yield (f"{name}: then a fragment and its rest", wrong + receive(hx("D1 7E") + BROKEN) + D
+                   + receive(REST_OF_HELD[width]) + D,
+                   ["R 21", "H 2 0", *kept(1 - work, HELD, width), f"P {work} 2 31 32", *gone(work, width)])
+            yield (f"{name}: then FF", wrong + receive(hx("D1 7E FF 7E")) + D, ["R 21", "R 5", *gone(work, width)])
+            yield (f"{name}: nothing is written", wrong + fill(2 + work, 0, b"abc") + receive(hx("D1 03 37 38 01 D3 7E"))
+                   + show(2 + work, 0, 3) + show(3 - work, 0, 2), ["R 21", "X 61 62 63", "X 30 32"])
+            yield (f"{name}: its flag lost", wrong + receive(hx("D1 05 31") + ZEROS[width] + hx("D1 7E")), "R 21, R 8")
+
+
+def before_21():
+    """6 and 8 come before it: without PRE the register is not looked at, with nothing held there is none to look at."""
+    yield "areas for 16 bits and 2,048", DEFAULT_LENGTHS, []
+    for settings in (0, 1, 0xFC, 0xFD):
+        for held, register in ((0, 0xFFFF), (0, 0x1234), (2, None), (2, 0x1234), (2051, 0)):
+            octets, wrong = held_octets(held), held_register(held, 16) if register is None else register
+            line = f"{len(octets) + 1} 0 0 0 1 1 6 16 2048 {wrong} 0"
+            yield (f"6, settings {settings:02X}, {held} held, register {wrong:04X}", receiver(
+                settings=settings, held=held, register=register) + receive(hx("D1")) + D + receive(hx("31 FF")) + D + receive(FLAG)
+                + D, [*[FRESH[0], f"T {settings} 0 0 {line}"] * 2, "R 6", *gone(0, settings=settings)])
+    for settings in (2, 3, 0xFE, 0xFF):
+        yield (f"8, settings {settings:02X}", open_receiver(settings) + receive(hx("D1")) + D + receive(FLAG) + D,
+               [*state(f"{settings} 0 0 0 0 0 0 1 1 8"), "R 8", *gone(0, settings=settings)])
+        yield (f"21, settings {settings:02X}", receiver(settings=settings, held=2, register=0x1234) + receive(hx("D1")) + D
+               + receive(FLAG) + D, [*changed(0, settings=settings), "R 21", *gone(0, settings=settings)])
+    yield ("8 after FF, whatever was there", receiver(held=2, register=0x1234) + receive(hx("FF 7E D1 7E")), "R 5, R 8")
+    yield ("not a first octet: 7", receiver(held=2, register=0x1234) + receive(hx("01 D1 7E")) + D,
+           ["R 7", FRESH[0], "T 3 0 0 3 0 0 0 0 0 0 16 2048 4660 0"])
+    yield ("not a first octet: data", receiver(held=2, register=0x1234) + receive(hx("05 D1 7E")) + D, ["H 1 1", *kept(1, hx("D1"))])
+
+
+# Register and width, with nothing held or something: in bounds, and out of bounds.
+NOTHING_IN, NOTHING_OUT = {16: (0xFFFF,), 32: (0xFFFFFFFF,)}, {
+    16: (0, 1, 0x1234, 0xFFFE, 0x10000, 0x1FFFF, 0xFFFF0000, 0xFFFFFFFF), 32: (0, 0xFFFF, 0x7FFFFFFF, 0xFFFF0000, 0xFFFFFFFE)}
+SOMETHING_IN, SOMETHING_OUT = {16: (0, 1, 0x7FFF, 0xFFFE, 0xFFFF), 32: (0, 0xFFFF, 0x10000, 0x80000000, 0xFFFFFFFE, 0xFFFFFFFF)}, {
+    16: (0x10000, 0x1FFFF, 0x80000000, 0xFFFF0000, 0xFFFFFFFF), 32: ()}
+
+
+def register_bounds():
+    frames = (("out of a frame", {}), ("in a block", IN_BLOCK), ("7 remembered", dict(frame=1, refusal=7)),
+              ("21 remembered", dict(frame=1, refusal=21)), ("21 remembered, resumed", dict(frame=1, resumed=1, refusal=21)),
+              ("resumed", dict(frame=1, resumed=1)))
+    for width in WIDTHS:
+        yield f"{width} bits: areas", lend(lent(width)), []
+        for name, frame in frames:
+            for held in (None, 0, 3, 2049 + width // 8):
+                for registers, refused in (((NOTHING_IN if held is None else SOMETHING_IN)[width], False),
+                                           ((NOTHING_OUT if held is None else SOMETHING_OUT)[width], True)):
+                    if registers:
+                        calls = [receiver(held=held, width=width, register=register, **frame) + receive(octet)
+                                 for register in registers for octet in (hx("31"), hx("D1"), hx("FF"), FLAG)]
+                        yield (f"{width} bits, {name}, {held} held, register {'out of' if refused else 'in'} bounds", b"".join(calls),
+                               ", ".join(["R 3"] * len(calls)) if refused else "no R 3")
+        for held in (None, 0, 3):
+            start = 2 ** width - 1
+            yield (f"{width} bits, {held} held, 5 remembered: register at its start", receiver(
+                held=held, width=width, register=start, frame=1, refusal=5) + receive(FLAG), "R 5" if held is None else "R 3")
+    yield ("16 bits, the low half right, the high half not", holding(HELD, register=0x14D53) + receive(FLAG), "R 3")
+    yield ("16 bits, the high half alone", receiver(register=0xFFFF0000) + receive(FLAG), "R 3")
+    yield ("32 bits, what 16 have at the start", receiver(width=32, register=0xFFFF) + receive(FLAG)
+           + receiver(width=32, held=0, register=0xFFFF) + receive(hx("D1 7E")), "R 3, R 21")
+    yield ("the halves stand low half first", hand_receiver((3, 0, 0, 2, *[0] * 6, 32, 2048, 0x1234, 0x5678)) + D
+           + receive(hx("7E D2 7E")) + D,
+           [FRESH[0], "T 3 0 0 2 0 0 0 0 0 0 32 2048 4660 22136", "R 7", FRESH[0], "T 3 0 0 2 0 0 0 0 0 0 32 2048 4660 22136"])
+
+
+def remembered_21():
+    """21 is in bounds as 6 to 10 are: in a frame, with anything held or nothing; its neighbours are not."""
+    for width in WIDTHS:
+        yield f"{width} bits: areas", lend(lent(width)), []
+        for held in (None, 0, 3, 2049 + width // 8):
+            octets = None if held is None else held_octets(held)
+            count = 0 if held is None else held + 1
+            for resumed in (0, 1):
+                yield (f"{width} bits, {held} held{', resumed' * resumed}", receiver(
+                    work=1, decoded=7, held=held, frame=1, resumed=resumed, refusal=21, width=width)
+                    + receive(hx("31 00 D1 FF")) + D + receive(FLAG) + D,
+                    [*state(f"3 1 7 {count} 0 0 0 1 {resumed} 21", width, held=octets), "R 21",
+                     *(gone(1, width) if resumed or held is None else kept(1, octets, width))])
+            yield (f"{width} bits, {held} held: out of a frame", receiver(held=held, refusal=21, width=width)
+                   + receive(hx("31 D1 FF 7E")), "R 3, R 3, R 3, R 3")
+            yield (f"{width} bits, {held} held: 11 to 20, and 22", b"".join(
+                receiver(held=held, frame=1, resumed=1, refusal=refusal, width=width) + receive(FLAG)
+                for refusal in (*range(11, 21), 22, 23, 255)), ", ".join(["R 3"] * 13))
+        yield (f"{width} bits: all else as large as can be", receiver(
+            work=1, decoded=2049 + width // 8, held=2049 + width // 8, left=207, zeros=2, last=2, frame=1, resumed=1, refusal=21,
+            width=width, register=2 ** width - 1) + receive(hx("31 7E")) + D, ["R 21", *gone(1, width)])
+        yield (f"{width} bits: one more decoded, held or left", b"".join(
+            receiver(frame=1, refusal=21, width=width, **more) + receive(FLAG)
+            for more in (dict(decoded=2050 + width // 8), dict(held=2050 + width // 8), dict(left=208), dict(zeros=3))),
+            "R 3, R 3, R 3, R 3")
+    for settings in (0, 1, 2, 0xFC):
+        yield (f"settings {settings:02X}", receiver(settings=settings, held=3, frame=1, refusal=21) + receive(FLAG) + D,
+               ["R 21", *kept(0, ramp(3), settings=settings)])
+    yield ("277 counts as 21", hand_receiver((3, 0, 0, 0, 0, 0, 0, 1, 0, 277, 16, 2048, 65535, 0)) + receive(FLAG), "R 21")
+
+
+def area_orders():
+    """3 by width or limit, 2, 3 by the rest; a refused call leaves what is held and its register, and looks at no octet."""
+    stays = kept(0, HELD)
+    wrong = [FRESH[0], "T 3 0 0 0 0 0 0 0 0 0 16 2048 4660 0"]
+    yield "areas for 16 bits and 2,048", DEFAULT_LENGTHS, []
+    for name, lengths in (("first one short", SHORT_FIRST), ("second one short", SHORT_SECOND), ("nothing lent", lend((0,) * 4))):
+        yield (f"{name}: D1, held octets unchanged and changed", lengths + holding(HELD) + receive(hx("D1")) + D + fill(3, 0, b"0")
+               + receive(hx("D1")) + D, ["R 2", *stays, "R 2", *stays])
+        yield (f"{name}: 2 before 3 by the register", receiver(register=0x1234) + receive(hx("D1 7E")) + D
+               + receiver(held=HELD, register=0x10000) + receive(FLAG), ["R 2", "R 2", *wrong, "R 2"])
+        yield (f"{name}: 3 by width or limit before 2", receiver(register=0x1234, width=24) + receive(FLAG)
+               + receiver(held=HELD, register=0x10000, limit=1) + receive(FLAG), "R 3, R 3")
+        yield (f"{name}: then long enough, 21", holding(HELD) + receive(hx("FF")) + fill(3, 1, b"0") + receive(hx("D1"))
+               + DEFAULT_LENGTHS + receive(hx("D1 7E")), "R 2, R 2, R 21")
+    yield ("3 by the rest leaves it", receiver(held=HELD, left=208, **IN_OTHER) + receive(hx("D1 FF 7E")) + D,
+           ["R 3", "R 3", "R 3", *state("3 0 0 3 208 0 2 1 0 0", held=HELD)])
+    yield ("3 by the register leaves it", receiver(register=0x1234) + receive(hx("D1 FF 05 7E")) + D, ["R 3"] * 4 + wrong)
+    yield ("3 by the register with something held leaves both", receiver(held=HELD, register=0x10000) + receive(hx("D1 FF 7E")) + D,
+           ["R 3", "R 3", "R 3", FRESH[0], "T 3 0 0 3 0 0 0 0 0 0 16 2048 0 1"])
+    yield ("3 by width or limit leaves it, whatever it is", receiver(held=HELD, register=0x12345678, width=24) + receive(hx("D1"))
+           + D + receiver(register=0x12345678, limit=16385) + receive(hx("D1")) + D,
+           ["R 3", FRESH[0], "T 3 0 0 3 0 0 0 0 0 0 24 2048 22136 4660", "R 3", FRESH[0], "T 3 0 0 0 0 0 0 0 0 0 16 16385 22136 4660"])
+    yield ("a refused opening leaves it", holding(HELD) + open_receiver(3, 24) + open_receiver(3, 16, 1) + D + receive(hx("D1 7E")),
+           ["R 3", "R 23", *stays, "R 9"])
+    yield ("no calls leave it", receiver(register=0x1234) + receive(b"") + D, wrong)
+
+
+def area_limits():
+    """Limits of 2, 3, 2,048 and 16,384 at both widths: as many octets held as can be, and one less."""
+    for limit, width, _, most, runs, last in BOUNDS:
+        agreed, name = dict(width=width, limit=limit), f"limit {limit}, {width} bits"
+        yield f"{name}: areas", lend(lent(width, limit)), []
+        # `most` zeros, the last of them as the data octet 31 of a block that has another to come.
+        line = hx("DF") * runs + bytes((last - 1,)) + hx("03 31 7E")
+        held = bytes(most - 1) + b"1"
+        yield f"{name}: held", open_receiver(3, **agreed) + receive(line) + D, [f"H {most} 0", *kept(1, held, width, limit)]
+        yield (f"{name}: accepted", receive(hx("D1")) + D + receive(FLAG) + D,
+               [*state(f"3 0 {most} 0 0 0 0 1 1 0", width, limit), "R 9", *gone(0, width, limit)])
+        for at, taken in ((0, False), (most // 2, False), (most - 1, False), (most, True)):
+            yield (f"{name}: octet {at} changed", open_receiver(3, **agreed) + receive(line) + fill(2, at, hx("EE"))
+                   + receive(hx("D1 7E")) + D,
+                   [f"H {most} 0", "R 9", *gone(0, width, limit)] if taken else [f"H {most} 0", "R 21", *gone(1, width, limit)])
+        yield (f"{name}: one octet changed in the work area", open_receiver(3, **agreed) + receive(line) + fill(3, 0, hx("EE"))
+               + receive(hx("D1 02 31 7E")), f"H {most} 0, R 10")
+        small = holding(HELD, **agreed)
+        yield (f"{name}: 31 32 held, delivered", small + receive(REST_OF_HELD[width]) + D,
+               ["P 1 2 31 32", *gone(1, width, limit)])
+        yield (f"{name}: 31 32 held, changed", small + fill(3, 1, b"3") + receive(REST_OF_HELD[width]) + D,
+               ["R 21", *gone(0, width, limit)])
+        yield (f"{name}: bounds", b"".join(receiver(register=register, held=held, **agreed) + receive(FLAG) for register, held in (
+            (2 ** width - 1, None), (2 ** width - 2, None), (0, most), (2 ** width % 2 ** 32 or 1, most))),
+            "R 3" if width == 32 else "R 3, R 3")
+    yield "areas for 16 bits and 2,048", DEFAULT_LENGTHS, []
+    zeros = bytes(2051)
+    yield ("as many zeros, one of them gone", holding(zeros) + receiver(held=zeros[1:], register=register_over(zeros))
+           + receive(hx("D1 7E")), "R 21")
+
+
+def changed_behind_back():
+    """Both ends. A host writes to an area while a packet is suspended."""
+    for width, limit in ((16, 2048), (32, 3), (32, 16384)):
+        (begun, rest), urgent = cut_frame(THREE + fcs(THREE, width), 1), plain_line(hx("44 45"), width)
+        name = f"limit {limit}, {width} bits"
+        yield (f"{name}: sent", opened(width, limit) + load_low(THREE) + next_octets(2) + load_high(hx("44 45"))
+               + next_octets(1 + len(urgent + rest) + 1), ["D", *sent(begun[:2]), "D", *sent(FLAG + urgent + rest), "I"])
+        yield (f"{name}: the held octet is written over", receive(begun) + fill(2, 0, b"X") + receive(urgent + rest),
+               "H 1 0, P 1 2 44 45, R 21")
+        yield f"{name}: what is sent next comes whole", receive(urgent + begun + urgent + rest), (
+            "P 1 2 44 45, H 1 0, P 0 2 44 45, P 1 3 41 42 43")
+        yield (f"{name}: what lies behind is written over", opened(width, limit) + receive(begun) + fill(2, 1, b"XYZ")
+               + receive(urgent + rest), "H 1 0, P 1 2 44 45, P 0 3 41 42 43")
+        yield (f"{name}: the work area is written over", receive(begun) + fill(3, 0, b"XYZ") + receive(urgent) + fill(3, 0, b"XYZ")
+               + receive(rest), "H 1 0, P 1 2 44 45, P 0 3 41 42 43")
+        yield (f"{name}: 21, its rest twice, a restart, all anew", receive(begun) + fill(2, 0, b"X") + receive(
+            rest + rest + hx("FF 7E") + begun + rest), "H 1 0, R 21, R 8, R 5, H 1 0, P 1 3 41 42 43")
+
+
+AREAS_TABLE = [
+    ("slip 8's examples", area_examples),
+    ("the register that is held", registers_held),
+    ("what lets go", lets_go),
+    ("what leaves it", leaves_it),
+    ("changes", changes),
+    ("no octets held", no_octets_held),
+    ("after 21", after_21),
+    ("6 and 8 before 21", before_21),
+    ("in bounds, the register", register_bounds),
+    ("in bounds, 21", remembered_21),
+    ("order of the call refusals", area_orders),
+    ("limits", area_limits),
+    ("both ends", changed_behind_back),
+]
+
+
 # --- Small scripts: commands, and every line that they give. A script ends at `E`, so each such case has its own.
 LONG = 65535
 EXAMPLE = open_sender(3) + load_low(hx("00 00")) + next_octets(6)
@@ -1808,13 +2298,13 @@ SCRIPTS = {
         open_sender(3) + load_low(hx("41 42 43")) + next_octets(2) + D + load_high(hx("44 45")) + next_octets(1) + D
         + next_octets(14) + open_receiver(3) + receive(hx("06 41 7E")) + D + receive(hx("05 44 45 E8 3B 7E")) + D
         + receive(hx("D1 05 42 43 2F 9F")) + D + receive(FLAG) + D,
-        ["D", "O 06", "O 41", "S 3 5 1 0 0 4 1 1 0 0 16 2048", "T 0 0 0 0 0 0 0 0 0 0 16 2048",
-         "D", "O 7E", "S 3 5 1 4 0 0 0 0 1 0 16 2048", "T 0 0 0 0 0 0 0 0 0 0 16 2048",
+        ["D", "O 06", "O 41", "S 3 5 1 0 0 4 1 1 0 0 16 2048", "T 0 0 0 0 0 0 0 0 0 0 16 2048 65535 0",
+         "D", "O 7E", "S 3 5 1 4 0 0 0 0 1 0 16 2048", "T 0 0 0 0 0 0 0 0 0 0 16 2048 65535 0",
          "O 05", "O 44", "O 45", "O E8", "O 3B", "O 7E", "O D1", "O 05", "O 42", "O 43", "O 2F", "O 9F", "O 7E", "I",
-         "H 1 0", "S 3 0 0 0 0 0 0 0 0 0 16 2048", "T 3 1 0 2 0 0 0 0 0 0 16 2048",
-         "P 1 2 44 45", "S 3 0 0 0 0 0 0 0 0 0 16 2048", "T 3 1 0 2 0 0 0 0 0 0 16 2048",
-         "S 3 0 0 0 0 0 0 0 0 0 16 2048", "T 3 0 6 0 0 0 2 1 1 0 16 2048",
-         "P 0 3 41 42 43", "S 3 0 0 0 0 0 0 0 0 0 16 2048", "T 3 0 0 0 0 0 0 0 0 0 16 2048"]),
+         "H 1 0", "S 3 0 0 0 0 0 0 0 0 0 16 2048", told("3 1 0 2 0 0 0 0 0 0", held=b"A"),
+         "P 1 2 44 45", "S 3 0 0 0 0 0 0 0 0 0 16 2048", told("3 1 0 2 0 0 0 0 0 0", held=b"A"),
+         "S 3 0 0 0 0 0 0 0 0 0 16 2048", "T 3 0 6 0 0 0 2 1 1 0 16 2048 65535 0",
+         "P 0 3 41 42 43", "S 3 0 0 0 0 0 0 0 0 0 16 2048", "T 3 0 0 0 0 0 0 0 0 0 16 2048 65535 0"]),
     # The operands of an unknown command are not known either: nothing behind it is carried out.
     "unknown": (EXAMPLE + b"?" + D, ["D", "O E0", "O 03", "O 47", "O 0F", "O 7E", "I", "E"]),
     "unknown-octet": (b"\x80", ["E"]),
@@ -1823,8 +2313,9 @@ SCRIPTS = {
     "cut-packet": (open_sender(3) + load_low(hx("41 42 43"))[:-1], ["E"]),
     "cut-line": (open_receiver(3) + receive(hx("05 31 7E 7E"))[:-1], ["E"]),
     "cut-opening": (open_sender(3, 32) + D + open_sender(3, 32)[:-1],
-                    ["S 3 0 0 0 0 0 0 0 0 0 32 2048", "T 0 0 0 0 0 0 0 0 0 0 16 2048", "E"]),
+                    ["S 3 0 0 0 0 0 0 0 0 0 32 2048", "T 0 0 0 0 0 0 0 0 0 0 16 2048 65535 0", "E"]),
     "cut-state": (hand_sender((3,) * 12)[:-1], ["E"]),
+    "cut-register": (hand_receiver((3,) * 13), ["E"]),
     "cut-show": (show(0, 0, 1)[:-1], ["E"]),
     "cut-letter": (D + b"A", [*FRESH, "E"]),
     # Counts as large as they can be.
@@ -1832,7 +2323,7 @@ SCRIPTS = {
         lend((LONG,) * 4) + lend_out(LONG) + fill(0, 0, hx("A5") * LONG) + show(0, 20478, LONG) + show(1, 0, 2)
         + load_low(hx("31") * LONG) + D + open_receiver(3) + receive(hx("D3 7E") + FLAG * (LONG - 4) + hx("D2 7E")) + D
         + next_octets(LONG) + show(OUT_AREA, 0, 3) + show(OUT_AREA, 40958, LONG),
-        ["X A5 A5", "X 00 00", "R 1", *FRESH, "R 13", "R 7", FRESH[0], "T 3 0 0 0 0 0 0 0 0 0 16 2048", *["I"] * LONG,
+        ["X A5 A5", "X 00 00", "R 1", *FRESH, "R 13", "R 7", FRESH[0], "T 3 0 0 0 0 0 0 0 0 0 16 2048 65535 0", *["I"] * LONG,
          "X 00 00 00", "X 00 00"]),
 }
 
@@ -1891,7 +2382,8 @@ def table_script(programs, label, groups, explain):
 
 def write_scripts(programs, folder, explain):
     scripts, wrong = {}, 0
-    for name, groups in (("base", BASE), ("width", WIDTH_TABLE), ("limit", LIMIT_TABLE), ("restart", RESTART_TABLE)):
+    for name, groups in (("base", BASE), ("width", WIDTH_TABLE), ("limit", LIMIT_TABLE), ("restart", RESTART_TABLE),
+                         ("areas", AREAS_TABLE)):
         scripts[name], faults = table_script(programs, name, groups, explain)
         wrong += faults
     for name, (commands, asked) in SCRIPTS.items():

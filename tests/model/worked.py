@@ -1,4 +1,5 @@
-"""The worked examples of document 01, and examples of slips 1, 11 and 4 of document 02, held against model.rs:
+"""The worked examples of document 01, and examples of slips 1, 11, 4 and 8 of document 02, held against
+model.rs:
 
     python3 worked.py MODEL
 """
@@ -6,7 +7,7 @@ import subprocess
 import sys
 import zlib
 
-from compare import fcs, hand_receiver, lend, lent, open_receiver, open_sender
+from compare import fcs, fill, halves, hand_receiver, lend, lent, open_receiver, open_sender, register_over
 
 MODEL = sys.argv[1]
 
@@ -64,12 +65,7 @@ check("EDB88320 has RFC 1662's exponents (C.3), 0 highest",
       sum(1 << 31 - n for n in (0, 1, 2, 4, 5, 7, 8, 10, 11, 12, 16, 22, 23, 26)), 0xEDB88320)
 
 
-def register(octets, width):
-    """The register over octets, undone from their FCS."""
-    return int.from_bytes(fcs(octets, width), "little") ^ 2 ** width - 1
-
-
-check("good ends, 16 and 32 bits", [register(b"any" + fcs(b"any", width), width) for width in (16, 32)], [0xF0B8, 0xDEBB20E3])
+check("good ends, 16 and 32 bits", [register_over(b"any" + fcs(b"any", width), width) for width in (16, 32)], [0xF0B8, 0xDEBB20E3])
 
 # Marked frames
 check("(a)", sent(3, hx("0000")), "E0 03 47 0F 7E")
@@ -80,7 +76,7 @@ CAPTURE = hx("0C 31 32 33 7E 0C 31 32 33 34 35 36 37 38 39 6E 90 7E D1 09 34 35 
 check("(e)", run("capture", CAPTURE),
       "H 3 0\nP 9 31 32 33 34 35 36 37 38 39\nP 9 31 32 33 34 35 36 37 38 39\nR 13\n")
 check("(e) counted", run("count", CAPTURE),
-      "packets 2\nheld 1\nheld-replaced 0\n" + "".join(f"refused-{n} {int(n == 13)}\n" for n in range(5, 15)))
+      "packets 2\nheld 1\nheld-replaced 0\n" + "".join(f"refused-{n} {int(n == 13)}\n" for n in (*range(5, 15), 21)))
 check("(f)", run("capture", hx("7E7E")), "")
 check("(g)", run("capture", hx("05 31 7E 05 32 7E")), "H 1 0\nH 1 1\n")
 check("(h) DB", run("capture", hx("DF") * 136 + hx("DB 7E")), "R 14\n")
@@ -99,7 +95,7 @@ check("3", run("exercise", b"s" + num(0) + num(300) + num(0) * 3 + num(208) + nu
 check("3, 207 is none", run("exercise", b"s" + num(0) + num(300) + num(0) * 3 + num(207) + num(0) + num(1)
                             + num(0) * 2 + num(16) + num(2048) + b"n" + num(1)), "O 00\n")
 check("3, receiver", run("exercise", b"t" + num(0) * 4 + num(208) + num(0) + num(2) + num(1) + num(0) * 2 + num(16)
-                         + num(2048) + b"r" + octs(hx("31"))), "R 3\n")
+                         + num(2048) + num(0xFFFF) + num(0) + b"r" + octs(hx("31"))), "R 3\n")
 check("4", run("exercise", (b"l" + octs(hx("3132"))) * 2), "D\nR 4\n")
 for number, settings, octets in [
     (5, 3, hx("FF 03 C0 21 7E")), (6, 0, hx("E0 7E")), (7, 3, hx("D2 7E")), (8, 3, hx("D1 01 7E")),
@@ -132,7 +128,7 @@ check("slip 1: width 24, a load of 1, an area of 0",
 
 def entry(place):
     """An entry of the model's 32-bit table, by the FCS of a packet whose second octet looks it up."""
-    before = register(b"1", 32)
+    before = register_over(b"1", 32)
     packet = bytes((0x31, before & 0xFF ^ place))
     out = run("exercise", lend(lent(32)) + open_sender(3, 32) + b"l" + octs(packet) + b"x\0" + num(2) + num(4))
     return int.from_bytes(bytes.fromhex(out.split("X")[1]), "little") ^ 0xFFFFFFFF ^ before >> 8
@@ -181,14 +177,52 @@ check("slip 11: captures keep 2,048", run("capture", hx("DF") * 136 + hx("DC 7E"
 check("slip 4: 05 31, FF 03, D1 01", received(3, hx("05 31 7E FF 03 7E D1 01 7E")), ["H 1 0", "R 5", "R 8"])
 check("slip 4: 05 31, D2, D1 01", received(3, hx("05 31 7E D2 7E D1 01 7E")), ["H 1 0", "R 7", "R 13"])
 check("slip 4: 05 31, FF", run("exercise", open_receiver(3) + b"r" + octs(hx("05 31 7E FF")) + b"d").splitlines()[::2],
-      ["H 1 0", "T 3 1 0 0 0 0 0 1 0 5 16 2048"])
+      ["H 1 0", "T 3 1 0 0 0 0 0 1 0 5 16 2048 65535 0"])
 for number, held, report in ((5, 2, "R 3"), (5, 1, "R 3"), (5, 0, "R 5"), *((n, 2, f"R {n}") for n in range(6, 11))):
     check(f"slip 4: in a frame, refusal {number}, held {held - 1 if held else 'none'}", run(
-        "exercise", hand_receiver((3, 0, 0, held, 0, 0, 0, 1, 0, number, 16, 2048)) + b"r" + octs(hx("7E"))), report + "\n")
+        "exercise", hand_receiver((3, 0, 0, held, 0, 0, 0, 1, 0, number, 16, 2048, 0xFFFF, 0)) + b"r" + octs(hx("7E"))), report + "\n")
 check("slip 4: a packet suspended, a restart, its rest", run("capture", hx("06 41 7E FF 03 C0 21 7E D1 05 42 43 2F 9F 7E")),
       "H 1 0\nR 5\nR 8\n")
 check("slip 4: then once more", run("capture", hx("06 41 7E FF 03 C0 21 7E 06 41 7E D1 05 42 43 2F 9F 7E")),
       "H 1 0\nR 5\nH 1 0\nP 3 41 42 43\n")
+
+# Slip 8, areas changed behind the receiver's back
+def told(*commands, width=16):
+    """The lines of a receiver opened with settings 03, the sender's left out."""
+    lines = run("exercise", lend(lent(width)) + open_receiver(3, width) + b"".join(commands)).splitlines()
+    return [line for line in lines if line[0] != "S"]
+
+
+def r(text):
+    return b"r" + octs(hx(text))
+
+
+for width, register in ((16, 0x4D53), (32, 0xB0ACBB32)):
+    held, fresh = (" ".join(map(str, (width, 2048, *halves(n)))) for n in (register, 2 ** width - 1))
+    kept = f"T 3 1 0 3 0 0 0 0 0 0 {held}"
+    check(f"slip 8: register of 31 32, {width} bits", register_over(b"12", width), register)
+    check(f"slip 8: 05 31 32, {width} bits", told(r("05 31 32 7E"), b"d", width=width), ["H 2 0", kept])
+    check(f"slip 8: octet 1 changed to 33, D1, 03 37 38, {width} bits",
+          told(r("05 31 32 7E"), fill(2, 1, b"3"), r("D1"), b"d", r("03 37 38 7E"), b"d", width=width),
+          ["H 2 0", f"T 3 1 0 0 0 0 0 1 1 21 {fresh}", "R 21", f"T 3 1 0 0 0 0 0 0 0 0 {fresh}"])
+    check(f"slip 8: octet 2 changed, D1 01, {width} bits", told(r("05 31 32 7E"), fill(2, 2, b"3"), r("D1 01 7E"), width=width),
+          ["H 2 0", "R 13"])
+    check(f"slip 8: a packet delivered in between, {width} bits", told(
+        r("05 31 32 7E"), r({16: "E0 03 47 0F 7E", 32: "E0 05 FF 12 D9 41 7E"}[width]), b"d", width=width),
+        ["H 2 0", "P 1 2 00 00", kept])
+
+
+def handed(settings, held, register, octets, *more):
+    """The lines of a receiver out of a frame handed in; held as the driver counts it."""
+    return told(hand_receiver((settings, 0, 0, held, *[0] * 6, 16, 2048, *halves(register))), r(octets), *more)
+
+
+check("slip 8: no octet held, register 1234, D1", handed(3, 1, 0x1234, "D1 7E"), ["R 21"])
+check("slip 8: no octet held, register FFFF, D1", handed(3, 1, 0xFFFF, "D1 7E"), ["R 9"])
+check("slip 8: nothing held, register 1234", handed(3, 0, 0x1234, "7E 31 D1 FF"), ["R 3"] * 4)
+check("slip 8: 1 held, register 10000", handed(3, 2, 0x10000, "7E 31 D1 FF"), ["R 3"] * 4)
+check("slip 8: settings 01, 1 held, D1", handed(1, 2, 0x1234, "D1 7E", b"d"), ["R 6", "T 1 0 0 0 0 0 0 0 0 0 16 2048 65535 0"])
+check("slip 8: no 21 in captures", run("count", CAPTURE + hx("05 31 7E D1 7E")).splitlines()[-1], "refused-21 0")
 
 # Length bound: n + 1 + floor(n / 207) octets before the flag
 LENGTHS = (2, 201, 202, 203, 204, 205, 206, 410, 411, 412, 2046, 2047, 2048)

@@ -1,4 +1,4 @@
-// Counts the reports of a capture: raw octets of a line, at its end the tally's thirteen counts on standard output, a line each. Each file that it is called
+// Counts the reports of a capture: raw octets of a line, at its end the tally's fourteen counts on standard output, a line each. Each file that it is called
 // with is a capture of its own. It reads with document 01's settings, as the capture reader does.
 ghost use mathlib.Core.Path.{_≡_};
 ghost use Rattle.link.specs.Receiver.{openedReceiver};
@@ -123,19 +123,9 @@ fn name(place: usize, page: &mut [u8], filled: usize) -> usize {
         2 => lines::text(b"held-replaced", page, filled),
         _ => {
             let begun = lines::text(b"refused-", page, filled);
-            lines::decimal(refusal(place), page, begun)
+            lines::decimal(tally::refusal_at(place) as u64, page, begun)
         }
     }
-}
-
-// The number of the refusal that is counted at a place.
-fn refusal(place: usize) -> u64 {
-    if place < tally::COUNTS {
-        if tally::REFUSALS <= place {
-            return (place - tally::REFUSALS) as u64 + tally::FIRST_REFUSAL as u64;
-        }
-    }
-    0
 }
 
 fn write_out(page: &[u8], filled: usize) -> bool {

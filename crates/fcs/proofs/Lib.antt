@@ -1,4 +1,4 @@
--- The crates above see the laws alone.
+-- The crates above see the laws alone, and what is told of bursts.
 mod Xor
 mod Steps
 mod Same
@@ -9,3 +9,4 @@ mod Fold
 mod Words16
 mod Words32
 pub mod Laws
+pub mod Bursts

@@ -66,7 +66,7 @@ up-linear k a b =
 
 -- ---- two that agree at every bit
 
-at-zero : (f : ℕ → ℕ) → Linear f → f 0 ≡ 0
+pub at-zero : (f : ℕ → ℕ) → Linear f → f 0 ≡ 0
 unfolding _⊕_
 at-zero f p = p 0 0 ∙ xor-self (f 0)
 

@@ -1,6 +1,6 @@
 // The check sequence, FCS (document 01, "Check sequence", and document 02, slip 1; RFC 1662, 3.1, C.2 and C.3), of 16 bits and of 32.
 ghost use mathlib.Core.Path.{_≡_};
-ghost use Rattle.fcs.specs.CheckSequence.{Check, check16, check32, feed, register, fcs, good, OctetIsEightBits, Sound, FramesEndGood, MarkedFcs};
+ghost use Rattle.fcs.specs.CheckSequence.{Check, check16, check32, feed, register, fcs, good, OctetIsEightBits, Sound, FramesEndGood, MarkedFcs, BurstsChange, BurstsOneLonger};
 
 mod check16;
 mod check32;
@@ -85,6 +85,6 @@ pub fn good32(frame: &[u8]) -> bool
 
 // What is claimed of this crate: each theorem that docs/DEMANDS.md names.
 pub fn claims()
-    ensures { λ _. ⌜ OctetIsEightBits × ((k : Check) → Sound k → FramesEndGood k) ⌝ }
-    ensures { λ _. ⌜ Sound check16 × Sound check32 × MarkedFcs ⌝ }
+    ensures { λ _. ⌜ OctetIsEightBits × ((k : Check) → Sound k → FramesEndGood k × BurstsChange k) ⌝ }
+    ensures { λ _. ⌜ Sound check16 × Sound check32 × MarkedFcs × BurstsOneLonger ⌝ }
 {}

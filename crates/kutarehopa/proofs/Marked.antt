@@ -19,6 +19,12 @@ marked-octets =
       refusedSender = refl;
       noReceiver = refl;
       noSender = refl;
+      start = refl;
+      start32 = refl;
+      notStart = refl;
+      startOf32 = refl;
+      startOf16 = refl;
+      anyHeld = refl;
       countAside = refl;
     }
 

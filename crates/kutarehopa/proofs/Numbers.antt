@@ -1,4 +1,5 @@
 -- The numbers of answers.
+use mathlib.Core.Logic.{⊎-elim}
 use mathlib.Core.Path.{_≡_, refl}
 use mathlib.Core.Bool.{Bool, true, false}
 use Prim.Native.Nat.{ℕ, _<_}
@@ -57,7 +58,7 @@ reports-have-numbers e x =
     (λ v. by-report (λ (a : Answer). Within (agreed settings) a (receive e x .after) → value a < 0x10000) (λ w. omega arith)
     (λ inSecond n w. omega (arith, w .1, limit-at-most (agreed settings) v))
     (λ n replaced w. omega (arith, w, decoded-at-most settings v))
-    (λ n w. omega (arith, w .1))
+    (λ n w. ⊎-elim (λ l. omega arith) (λ q. omega arith) (w .1))
     e
     x
     (within e x))
@@ -65,7 +66,7 @@ reports-have-numbers e x =
 
 -- ---- which answer it is
 
--- A number of a refusal (1 to 14, 23) is no other answer's: of those with a value only packets and fragments come before it.
+-- A number of a refusal (1 to 14, 21, 23) is no other answer's: of those with a value only packets and fragments come before it.
 module _ (n : ℕ) (small : n < 0x10000) where
   pub is-refused : (a : Answer) → ((inSecond : Bool) (k : ℕ) → a ≡ packet inSecond k → k < 0x10000) → ((k : ℕ) (replaced : Bool) → a ≡ held k replaced → k < 0x10000)
       → number a ≡ number (refused n) → a ≡ refused n

@@ -1,14 +1,17 @@
 -- Octets and the states that they spell.
-use mathlib.Core.Path.{_≡_, refl, ap}
-use mathlib.Core.Bool.{Bool, true, false}
+use mathlib.Core.Path.{_≡_, refl, sym, ap}
+use mathlib.Core.Bool.{Bool, true, false, _&&_, _||_}
 use mathlib.Core.List.{List}
 use Prim.Native.Nat.{ℕ, zero, suc, _+_, _*_, _<_}
 use native.Mathlib.Omega.{arith}
-use borrow.Author.Tests.{leb-true, eqb-true, eqb-false}
+use borrow.Author.Tests.{leb-true, eqb-true, eqb-false, eq-eqb}
 use lib.Dec.{leb, eqb}
 use lib.ListN.{getD}
 use Rattle.fcs.specs.Notation.{if_then_else_}
+use Rattle.cobs.proofs.Tests.{and-left, and-right}
 use Rattle.link.proofs.Tests.{ands}
+use Rattle.link.specs.Agreed.{Agreed, agreed}
+use Rattle.link.specs.Receiver.{carried}
 use Rattle.link.specs.declared.sender.Lane.the-variants.{Low as low, High as high}
 use Rattle.link.specs.declared.sender.OnLine.{OnLine}
 use Rattle.link.specs.declared.sender.OnLine.the-variants.{NoLane as noLane, Sending as sending}
@@ -18,7 +21,7 @@ use Rattle.link.specs.declared.receiver.Fragment.the-variants.{NothingHeld as n
 use Rattle.link.specs.declared.receiver.LastBlock.{LastBlock}
 use Rattle.link.specs.declared.receiver.LastBlock.the-variants.{NoBlock as noBlock, BlockD0 as blockD0, OtherBlock as otherBlock}
 use Rattle.link.specs.declared.receiver.Receiver.{Receiver}
-use Rattle.kutarehopa.specs.Layout.{octetAt, markAt, lowOctet, highOctet, markOctet, lastBlockOf, lastBlockOctet, heldCount, heldOctet, spellReceiver, receiverIn, receiverOctets, lineOf, lineOctet, spellSender, senderIn, senderOctets, over}
+use Rattle.kutarehopa.specs.Layout.{octetAt, longAt, markAt, lowOctet, highOctet, secondOctet, thirdOctet, fourthOctet, markOctet, settingsIn, lastBlockOf, lastBlockOctet, heldCount, heldOctet, spellReceiver, receiverIn, receiverOctets, lineOf, lineOctet, spellSender, senderIn, senderOctets, over}
 use Rattle.kutarehopa.specs.Spelling.{placesIfHeld, receiverPlaces, senderPlaces, octetsAt, PackedSpellsItself, PackedAgain, LooksNowhereElse}
 
 -- ---- a field in octets and back
@@ -36,11 +39,20 @@ mark-back false = refl
 
 held-small : (f : Fragment) → leb (heldOctet f) 1 ≡ true
 held-small nothingHeld = refl
-held-small (holds n) = refl
+held-small (holds n k) = refl
 
-held-back : (f : Fragment) → (if eqb (heldOctet f) 1 then holds (lowOctet (heldCount f) + 256 * highOctet (heldCount f)) else nothingHeld) ≡ f
-held-back nothingHeld = refl
-held-back (holds n) = ap holds (number-back n)
+long-back : (n : ℕ) → lowOctet n + 256 * secondOctet n + 65536 * thirdOctet n + 16777216 * fourthOctet n ≡ n
+long-back n = omega arith
+
+held-back : (g : Agreed) (f : Fragment)
+    → (if eqb (heldOctet f) 1 then holds (lowOctet (heldCount f) + 256 * highOctet (heldCount f)) (carried g f) else nothingHeld) ≡ f
+held-back g nothingHeld = refl
+held-back g (holds n k) = rw (number-back n)
+
+-- where nothing is held the register is at its start
+start-back : (g : Agreed) (f : Fragment) → (eqb (heldOctet f) 1 || eqb (carried g f) (carried g nothingHeld)) ≡ true
+start-back g nothingHeld = eq-eqb (carried g nothingHeld) (carried g nothingHeld) refl
+start-back g (holds n k) = refl
 
 last-small : (b : LastBlock) → leb (lastBlockOctet b) 2 ≡ true
 last-small noBlock = refl
@@ -70,6 +82,23 @@ low-again a b h = omega arith
 high-again : (a b : ℕ) → a < 256 → highOctet (a + 256 * b) ≡ b
 high-again a b h = omega arith
 
+-- of four
+module _ (a b c d : ℕ) (h : a < 256) where
+  abbrev long : ℕ
+  long = a + 256 * b + 65536 * c + 16777216 * d
+
+  first-again : lowOctet long ≡ a
+  first-again = omega arith
+
+  second-again : b < 256 → secondOctet long ≡ b
+  second-again i = omega arith
+
+  third-again : b < 256 → c < 256 → thirdOctet long ≡ c
+  third-again i j = omega arith
+
+  fourth-again : b < 256 → c < 256 → fourthOctet long ≡ d
+  fourth-again i j = omega arith
+
 mark-again : (n : ℕ) → leb n 1 ≡ true → markOctet (eqb n 1) ≡ n
 mark-again zero h = refl
 mark-again (suc zero) h = refl
@@ -91,12 +120,31 @@ line-again (suc (suc (suc n))) h = absurd (omega (arith, leb-true (suc (suc (suc
 
 receiver-spelled : (r : Receiver) (m : List ℕ) → spellReceiver (over (receiverOctets r) m) ≡ true
 unfolding spellReceiver receiverOctets
-receiver-spelled r m = rw (mark-small (r .turn), held-small (r .held), last-small (r .last), mark-small (r .framed), mark-small (r .resumed))
+receiver-spelled r m =
+    rw (
+      number-back (r .settings .limit),
+      long-back (carried (agreed (r .settings)) (r .held)),
+      mark-small (r .turn),
+      held-small (r .held),
+      last-small (r .last),
+      mark-small (r .framed),
+      mark-small (r .resumed),
+    )
+    (start-back (agreed (r .settings)) (r .held))
 
 receiver-back : (r : Receiver) (m : List ℕ) → receiverIn (over (receiverOctets r) m) ≡ r
 unfolding receiverIn receiverOctets
 receiver-back r m =
-    rw (number-back (r .settings .limit), mark-back (r .turn), number-back (r .decoded), held-back (r .held), last-back (r .last), mark-back (r .framed), mark-back (r .resumed))
+    rw (
+      number-back (r .settings .limit),
+      mark-back (r .turn),
+      number-back (r .decoded),
+      long-back (carried (agreed (r .settings)) (r .held)),
+      held-back (agreed (r .settings)) (r .held),
+      last-back (r .last),
+      mark-back (r .framed),
+      mark-back (r .resumed),
+    )
 
 sender-spelled : (s : Sender) (m : List ℕ) → spellSender (over (senderOctets s) m) ≡ true
 unfolding spellSender senderOctets
@@ -131,11 +179,17 @@ ReceiverTests m =
     × (leb (octetAt m 22) 2 ≡ true)
     × (leb (octetAt m 23) 1 ≡ true)
     × (leb (octetAt m 24) 1 ≡ true)
+    × ((markAt m 13 || eqb (longAt m 16) (carried (agreed (settingsIn m)) nothingHeld)) ≡ true)
 
 receiver-tests : (m : List ℕ) → spellReceiver m ≡ true → ReceiverTests m
 unfolding spellReceiver
-receiver-tests m =
+receiver-tests m s =
+    let start = markAt m 13 || eqb (longAt m 16) (carried (agreed (settingsIn m)) nothingHeld) in
+    let six = eqb (octetAt m 0) 1 && leb (octetAt m 10) 1 && leb (octetAt m 13) 1 && leb (octetAt m 22) 2 && leb (octetAt m 23) 1 && leb (octetAt m 24) 1 in
+    let t =
     ands (eqb (octetAt m 0) 1) (leb (octetAt m 10) 1) (leb (octetAt m 13) 1) (leb (octetAt m 22) 2) (leb (octetAt m 23) 1) (leb (octetAt m 24) 1)
+    (and-left six start s) in
+    (t .0, t .1, t .2, t .3, t .4, t .5, and-right six start s)
 
 abbrev SenderTests : List ℕ → Type 0
 SenderTests m = (eqb (octetAt m 0) 1 ≡ true) × (leb (octetAt m 5) 2 ≡ true) × (leb (octetAt m 6) 1 ≡ true) × (leb (octetAt m 7) 1 ≡ true)
@@ -165,11 +219,21 @@ module _ (m : List ℕ) (o : (i : ℕ) → octetAt m i < 256) where
         mark-again (octetAt m 24) (t .5),
         low-again (octetAt m 14) (octetAt m 15) (o 14),
         high-again (octetAt m 14) (octetAt m 15) (o 14),
+        first-again _ _ _ _ (o 16),
+        second-again _ _ _ _ (o 16) (o 17),
+        third-again _ _ _ _ (o 16) (o 17) (o 18),
+        fourth-again _ _ _ _ (o 16) (o 17) (o 18),
       )
   receiver-again t false h =
       let none : octetAt m 13 ≡ 0 = omega (arith, leb-true (octetAt m 13) 1 (t .2), eqb-false (octetAt m 13) 1 h) in
+      let start : carried (agreed (settingsIn m)) nothingHeld ≡ longAt m 16 = sym (eqb-true (longAt m 16) _ (rw h at (t .6))) in
       rw (
         h,
+        start,
+        first-again _ _ _ _ (o 16),
+        second-again _ _ _ _ (o 16) (o 17),
+        third-again _ _ _ _ (o 16) (o 17) (o 18),
+        fourth-again _ _ _ _ (o 16) (o 17) (o 18),
         eqb-true (octetAt m 0) 1 (t .0),
         low-again (octetAt m 2) (octetAt m 3) (o 2),
         high-again (octetAt m 2) (octetAt m 3) (o 2),
@@ -226,6 +290,10 @@ module _ (m n : List ℕ) where
       × (octetAt n 11 ≡ octetAt m 11)
       × (octetAt n 12 ≡ octetAt m 12)
       × (octetAt n 13 ≡ octetAt m 13)
+      × (octetAt n 16 ≡ octetAt m 16)
+      × (octetAt n 17 ≡ octetAt m 17)
+      × (octetAt n 18 ≡ octetAt m 18)
+      × (octetAt n 19 ≡ octetAt m 19)
       × (octetAt n 20 ≡ octetAt m 20)
       × (octetAt n 21 ≡ octetAt m 21)
       × (octetAt n 22 ≡ octetAt m 22)
@@ -234,14 +302,15 @@ module _ (m n : List ℕ) where
       × (octetAt n 25 ≡ octetAt m 25)
 
   same-receiver : (held : Bool) → octetsAt n (placesIfHeld held) ≡ octetsAt m (placesIfHeld held) → SameReceiver
-  same-receiver held e = let at = same-at (placesIfHeld held) e in (at 0, at 1, at 2, at 3, at 4, at 5, at 6, at 7, at 8, at 9, at 10, at 11, at 12, at 13, at 14)
+  same-receiver held e = let at = same-at (placesIfHeld held) e in (at 0, at 1, at 2, at 3, at 4, at 5, at 6, at 7, at 8, at 9, at 10, at 11, at 12, at 13, at 14, at 15, at 16, at 17, at 18)
 
   same-held : (held : Bool) → markAt m 13 ≡ held → octetsAt n (placesIfHeld held) ≡ octetsAt m (placesIfHeld held)
-      → (if markAt m 13 then holds (octetAt n 14 + 256 * octetAt n 15) else nothingHeld) ≡ (if markAt m 13 then holds (octetAt m 14 + 256 * octetAt m 15) else nothingHeld)
+      → (if markAt m 13 then holds (octetAt n 14 + 256 * octetAt n 15) (longAt m 16) else nothingHeld)
+      ≡ (if markAt m 13 then holds (octetAt m 14 + 256 * octetAt m 15) (longAt m 16) else nothingHeld)
   same-held true h e =
       let at = same-at (placesIfHeld true) e in
-      let low : octetAt n 14 ≡ octetAt m 14 = at 15 in
-      let high : octetAt n 15 ≡ octetAt m 15 = at 16 in
+      let low : octetAt n 14 ≡ octetAt m 14 = at 19 in
+      let high : octetAt n 15 ≡ octetAt m 15 = at 20 in
       rw (low, high)
   same-held false h e = rw h
 
@@ -249,8 +318,8 @@ module _ (m n : List ℕ) where
   unfolding spellReceiver receiverIn
   receiver-nowhere e =
       let p = same-receiver (markAt m 13) e in (
-        rw (p .0, p .5, p .8, p .11, p .12, p .13),
-        rw (p .1, p .2, p .3, p .4, p .5, p .6, p .7, p .8, p .9, p .10, p .11, p .12, p .13, p .14, same-held (markAt m 13) refl e),
+        rw (p .0, p .1, p .2, p .3, p .4, p .5, p .8, p .9, p .10, p .11, p .12, p .15, p .16, p .17),
+        rw (p .1, p .2, p .3, p .4, p .5, p .6, p .7, p .8, p .9, p .10, p .11, p .12, p .13, p .14, p .15, p .16, p .17, p .18, same-held (markAt m 13) refl e),
       )
 
   abbrev SameSender : Type 0

@@ -1,6 +1,6 @@
 -- The octets of a state, field by field: it is packed into the first of 64 octets that the caller has. Those listed here are written, each with
--- the value of its field; a field of later work has the one value that it can have as yet, and is not looked at. Numbers of two octets have the
--- low one first, and marks are 0 or 1.
+-- the value of its field; a field of later work has the one value that it can have as yet, and is not looked at. Numbers of two octets or four
+-- have the low one first, and marks are 0 or 1.
 --
 --   receiver                               sender
 --   0       1                              0       1
@@ -13,7 +13,7 @@
 --   11-12   decoded                        8-9     low length
 --   13      something held                 10-11   low position
 --   14-15   held count, 0 if nothing is    12-13   high length
---   16-19   register: 0                    14-15   high position
+--   16-19   register                       14-15   high position
 --   20      data left                      16      data left
 --   21      zeros due                      17      zeros due
 --   22      last block: 0 none, 1 D0,      18-37   0
@@ -21,12 +21,14 @@
 --   23      in a frame
 --   24      resumed
 --   25      remembered refusal
-use mathlib.Core.Bool.{Bool, true, false, _&&_}
+use mathlib.Core.Bool.{Bool, true, false, _&&_, _||_}
 use mathlib.Core.List.{List, [], _∷_, _++_}
 use Prim.Native.Nat.{ℕ, _+_, _*_, _/_, _%_}
 use lib.Dec.{leb, eqb}
 use lib.ListN.{length, drop, getD, replicate}
 use Rattle.fcs.specs.Notation.{if_then_else_}
+use Rattle.link.specs.Agreed.{agreed}
+use Rattle.link.specs.Receiver.{carried}
 use Rattle.link.specs.declared.Settings.{Settings}
 use Rattle.link.specs.declared.sender.Lane.the-variants.{Low as low, High as high}
 use Rattle.link.specs.declared.sender.OnLine.{OnLine}
@@ -40,12 +42,15 @@ use Rattle.link.specs.declared.receiver.Receiver.{Receiver}
 
 -- ---- fields
 
--- octet i, and the number of octets i and i + 1
+-- octet i, and the numbers of two octets and of four from i on
 abbrev pub octetAt : List ℕ → ℕ → ℕ
 octetAt m i = getD m i 0
 
 abbrev pub numberAt : List ℕ → ℕ → ℕ
 numberAt m i = octetAt m i + 256 * octetAt m (i + 1)
+
+abbrev pub longAt : List ℕ → ℕ → ℕ
+longAt m i = octetAt m i + 256 * octetAt m (i + 1) + 65536 * octetAt m (i + 2) + 16777216 * octetAt m (i + 3)
 
 abbrev pub markAt : List ℕ → ℕ → Bool
 markAt m i = eqb (octetAt m i) 1
@@ -56,6 +61,16 @@ lowOctet n = n % 256
 
 abbrev pub highOctet : ℕ → ℕ
 highOctet n = n / 256
+
+-- of four octets, behind the low one
+abbrev pub secondOctet : ℕ → ℕ
+secondOctet n = n / 256 % 256
+
+abbrev pub thirdOctet : ℕ → ℕ
+thirdOctet n = n / 65536 % 256
+
+abbrev pub fourthOctet : ℕ → ℕ
+fourthOctet n = n / 16777216
 
 abbrev pub markOctet : Bool → ℕ
 markOctet true = 1
@@ -77,16 +92,17 @@ lastBlockOctet otherBlock = 2
 
 abbrev pub heldCount : Fragment → ℕ
 heldCount nothingHeld = 0
-heldCount (holds n) = n
+heldCount (holds n k) = n
 
 abbrev pub heldOctet : Fragment → ℕ
 heldOctet nothingHeld = 0
-heldOctet (holds n) = 1
+heldOctet (holds n k) = 1
 
--- whether octets spell a receiver's state,
+-- whether octets spell a receiver's state: where nothing is held, the register is at its start
 unfoldable pub spellReceiver : List ℕ → Bool
 spellReceiver m =
     eqb (octetAt m 0) 1 && leb (octetAt m 10) 1 && leb (octetAt m 13) 1 && leb (octetAt m 22) 2 && leb (octetAt m 23) 1 && leb (octetAt m 24) 1
+    && (markAt m 13 || eqb (longAt m 16) (carried (agreed (settingsIn m)) nothingHeld))
 
 -- the state that they spell,
 unfoldable pub receiverIn : List ℕ → Receiver
@@ -95,7 +111,7 @@ receiverIn m =
       settings = settingsIn m;
       turn = markAt m 10;
       decoded = numberAt m 11;
-      held = if markAt m 13 then holds (numberAt m 14) else nothingHeld;
+      held = if markAt m 13 then holds (numberAt m 14) (longAt m 16) else nothingHeld;
       left = octetAt m 20;
       zeros = octetAt m 21;
       last = lastBlockOf (octetAt m 22);
@@ -107,9 +123,10 @@ receiverIn m =
 -- and the octets of a state, from the first on
 unfoldable pub receiverOctets : Receiver → List ℕ
 receiverOctets r =
+    let k = carried (agreed (r .settings)) (r .held) in
     1 ∷ r .settings .width ∷ lowOctet (r .settings .limit) ∷ highOctet (r .settings .limit) ∷ r .settings .octet ∷ 0 ∷ 0 ∷ 0 ∷ 0 ∷ 0
     ∷ markOctet (r .turn) ∷ lowOctet (r .decoded) ∷ highOctet (r .decoded)
-    ∷ heldOctet (r .held) ∷ lowOctet (heldCount (r .held)) ∷ highOctet (heldCount (r .held)) ∷ 0 ∷ 0 ∷ 0 ∷ 0
+    ∷ heldOctet (r .held) ∷ lowOctet (heldCount (r .held)) ∷ highOctet (heldCount (r .held)) ∷ lowOctet k ∷ secondOctet k ∷ thirdOctet k ∷ fourthOctet k
     ∷ r .left ∷ r .zeros ∷ lastBlockOctet (r .last) ∷ markOctet (r .framed) ∷ markOctet (r .resumed) ∷ r .refusal ∷ []
 
 -- ---- the sender

@@ -19,7 +19,7 @@ pub record MarkedOctets : Type 0 where
     settings = record { octet = 3; width = 16; limit = 0x0908 };
     turn = true;
     decoded = 0x0201;
-    held = holds 0x0403;
+    held = holds 0x0403 0x0F0E0D0C;
     left = 5;
     zeros = 6;
     last = otherBlock;
@@ -27,7 +27,7 @@ pub record MarkedOctets : Type 0 where
     resumed = false;
     refusal = 7;
   })
-      ≡ 1 ∷ 16 ∷ 8 ∷ 9 ∷ 3 ∷ 0 ∷ 0 ∷ 0 ∷ 0 ∷ 0 ∷ 1 ∷ 1 ∷ 2 ∷ 1 ∷ 3 ∷ 4 ∷ 0 ∷ 0 ∷ 0 ∷ 0 ∷ 5 ∷ 6 ∷ 2 ∷ 1 ∷ 0 ∷ 7 ∷ []
+      ≡ 1 ∷ 16 ∷ 8 ∷ 9 ∷ 3 ∷ 0 ∷ 0 ∷ 0 ∷ 0 ∷ 0 ∷ 1 ∷ 1 ∷ 2 ∷ 1 ∷ 3 ∷ 4 ∷ 0x0C ∷ 0x0D ∷ 0x0E ∷ 0x0F ∷ 5 ∷ 6 ∷ 2 ∷ 1 ∷ 0 ∷ 7 ∷ []
   pub anotherReceiver : receiverOctets (record {
     settings = record { octet = 0xFF; width = 32; limit = 16384 };
     turn = false;
@@ -40,7 +40,7 @@ pub record MarkedOctets : Type 0 where
     resumed = true;
     refusal = 10;
   })
-      ≡ 1 ∷ 32 ∷ 0 ∷ 0x40 ∷ 0xFF ∷ 0 ∷ 0 ∷ 0 ∷ 0 ∷ 0 ∷ 0 ∷ 5 ∷ 0x40 ∷ 0 ∷ 0 ∷ 0 ∷ 0 ∷ 0 ∷ 0 ∷ 0 ∷ 207 ∷ 2 ∷ 1 ∷ 0 ∷ 1 ∷ 10 ∷ []
+      ≡ 1 ∷ 32 ∷ 0 ∷ 0x40 ∷ 0xFF ∷ 0 ∷ 0 ∷ 0 ∷ 0 ∷ 0 ∷ 0 ∷ 5 ∷ 0x40 ∷ 0 ∷ 0 ∷ 0 ∷ 0xFF ∷ 0xFF ∷ 0xFF ∷ 0xFF ∷ 207 ∷ 2 ∷ 1 ∷ 0 ∷ 1 ∷ 10 ∷ []
   -- and such a sender
   pub sender : senderOctets (record {
     settings = record { octet = 3; width = 32; limit = 0x0C0B };
@@ -66,7 +66,7 @@ pub record MarkedOctets : Type 0 where
       ≡ 1 ∷ 16 ∷ 2 ∷ 0 ∷ 0 ∷ 1 ∷ 0 ∷ 1 ∷ 4 ∷ 0 ∷ 5 ∷ 0 ∷ replicate 26 0
   -- opened, in memory that held something else; and not
   pub openedReceiver : openReceiver (replicate 64 0xAA) (bits16 3)
-      ≡ record { answer = 0x04000000; state = 1 ∷ 16 ∷ 0 ∷ 8 ∷ 3 ∷ (replicate 21 0 ++ replicate 38 0xAA) }
+      ≡ record { answer = 0x04000000; state = 1 ∷ 16 ∷ 0 ∷ 8 ∷ 3 ∷ (replicate 11 0 ++ (0xFF ∷ 0xFF ∷ (replicate 8 0 ++ replicate 38 0xAA))) }
   pub openedSender : openSender (replicate 64 0xAA) (record { octet = 2; width = 32; limit = 16384 })
       ≡ record { answer = 0x04000000; state = 1 ∷ 32 ∷ 0 ∷ 0x40 ∷ 2 ∷ (replicate 33 0 ++ replicate 26 0xAA) }
   pub refusedReceiver : openReceiver (replicate 64 0xAA) (record { octet = 3; width = 24; limit = 2 })
@@ -76,6 +76,14 @@ pub record MarkedOctets : Type 0 where
   -- memory of zeros is no state
   pub noReceiver : spellReceiver (replicate 64 0) ≡ false
   pub noSender : spellSender (replicate 64 0) ≡ false
+  -- where nothing is held the register is at its start, FFFF with 16 bits and FFFFFFFF with 32
+  pub start : spellReceiver (1 ∷ 16 ∷ (replicate 14 0 ++ (0xFF ∷ 0xFF ∷ replicate 46 0))) ≡ true
+  pub start32 : spellReceiver (1 ∷ 32 ∷ (replicate 14 0 ++ (replicate 4 0xFF ++ replicate 44 0))) ≡ true
+  pub notStart : spellReceiver (1 ∷ 16 ∷ (replicate 14 0 ++ (0x34 ∷ 0x12 ∷ replicate 46 0))) ≡ false
+  pub startOf32 : spellReceiver (1 ∷ 16 ∷ (replicate 14 0 ++ (replicate 4 0xFF ++ replicate 44 0))) ≡ false
+  pub startOf16 : spellReceiver (1 ∷ 32 ∷ (replicate 14 0 ++ (0xFF ∷ 0xFF ∷ replicate 46 0))) ≡ false
+  -- and where something is it may be any
+  pub anyHeld : spellReceiver (1 ∷ 16 ∷ (replicate 11 0 ++ (1 ∷ 0 ∷ 0 ∷ 0x34 ∷ 0x12 ∷ replicate 46 0))) ≡ true
   -- where nothing is held the count is not looked at
   pub countAside : receiverIn (replicate 14 0 ++ 1 ∷ 1 ∷ replicate 48 0) .held ≡ nothingHeld
 

@@ -12,7 +12,7 @@ use Rattle.kutarehopa.specs.Layout.{octetAt, markAt, spellReceiver, rece
 
 -- a held count only where something is held
 abbrev pub placesIfHeld : Bool → List ℕ
-placesIfHeld held = 0 ∷ 1 ∷ 2 ∷ 3 ∷ 4 ∷ 10 ∷ 11 ∷ 12 ∷ 13 ∷ 20 ∷ 21 ∷ 22 ∷ 23 ∷ 24 ∷ 25 ∷ (if held then 14 ∷ 15 ∷ [] else [])
+placesIfHeld held = 0 ∷ 1 ∷ 2 ∷ 3 ∷ 4 ∷ 10 ∷ 11 ∷ 12 ∷ 13 ∷ 16 ∷ 17 ∷ 18 ∷ 19 ∷ 20 ∷ 21 ∷ 22 ∷ 23 ∷ 24 ∷ 25 ∷ (if held then 14 ∷ 15 ∷ [] else [])
 
 abbrev pub receiverPlaces : List ℕ → List ℕ
 receiverPlaces m = placesIfHeld (markAt m 13)

@@ -43,6 +43,13 @@ pub(crate) fn number(low: u8, high: u8) -> u16
     low as u16 + 256 * (high as u16)
 }
 
+// And of four.
+pub(crate) fn long(first: u8, second: u8, third: u8, fourth: u8) -> u32
+    ensures { λ r. ⌜ r ≡ first + 256 * second + 65536 * third + 16777216 * fourth ⌝ }
+{
+    first as u32 + 256 * (second as u32) + 65536 * (third as u32) + 16777216 * (fourth as u32)
+}
+
 // The settings in the octets of either end.
 pub(crate) fn settings_in(state: &[u8; 64]) -> Settings
     ensures { λ r. ⌜ r ≡ settingsIn (now (state .entry)) ⌝ }

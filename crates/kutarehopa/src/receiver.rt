@@ -5,17 +5,17 @@ ghost use lib.Dec.{eqb};
 ghost use Rattle.link.specs.declared.receiver.Fragment.the-variants.{NothingHeld as nothingHeld, Holds as holds};
 ghost use Rattle.link.specs.Answers.{reportAnswer};
 ghost use Rattle.kutarehopa.specs.Calls.{taken, receiverAfter};
-ghost use Rattle.kutarehopa.specs.Layout.{lastBlockOf, lastBlockOctet, heldCount, heldOctet, spellReceiver, receiverIn, receiverOctets, over};
+ghost use Rattle.kutarehopa.specs.Layout.{longAt, lastBlockOf, lastBlockOctet, heldCount, heldOctet, spellReceiver, receiverIn, receiverOctets, over};
 use link::receiver::Fragment;
 use link::receiver::LastBlock;
 use link::receiver::Receiver;
 use link::receiver::Report;
 
-fn fragment(mark: u8, count: u16) -> Fragment
-    ensures { λ r. ⌜ r ≡ (if eqb mark 1 then holds count else nothingHeld) ⌝ }
+fn fragment(mark: u8, count: u16, register: u32) -> Fragment
+    ensures { λ r. ⌜ r ≡ (if eqb mark 1 then holds count register else nothingHeld) ⌝ }
 {
     if mark == 1 {
-        Fragment::Holds(count)
+        Fragment::Holds { count, register }
     } else {
         Fragment::NothingHeld
     }
@@ -26,7 +26,7 @@ fn held_octet(held: Fragment) -> u8
 {
     match held {
         Fragment::NothingHeld => 0,
-        Fragment::Holds(_) => 1,
+        Fragment::Holds { .. } => 1,
     }
 }
 
@@ -35,7 +35,7 @@ fn held_count(held: Fragment) -> u16
 {
     match held {
         Fragment::NothingHeld => 0,
-        Fragment::Holds(n) => n,
+        Fragment::Holds { count, register: _ } => count,
     }
 }
 
@@ -61,16 +61,27 @@ fn last_octet(last: LastBlock) -> u8
     }
 }
 
+// The register in a receiver's octets.
+fn register_in(state: &[u8; 64]) -> u32
+    ensures { λ r. ⌜ r ≡ longAt (now (state .entry)) 16 ⌝ }
+{
+    crate::long(state[16], state[17], state[18], state[19])
+}
+
 // Whether octets spell a state.
 pub(crate) fn spells(state: &[u8; 64]) -> bool
     ensures { λ r. ⌜ r ≡ spellReceiver (now (state .entry)) ⌝ }
 {
+    let settings = crate::settings_in(state);
+    let register = register_in(state);
+    let start = settings.start();
     (state[0] == 1)
         & (state[10] <= 1)
         & (state[13] <= 1)
         & (state[22] <= 2)
         & (state[23] <= 1)
         & (state[24] <= 1)
+        & ((state[13] == 1) | (register == start))
 }
 
 // The state that they spell.
@@ -78,7 +89,8 @@ pub(crate) fn unpack(state: &[u8; 64]) -> Receiver
     ensures { λ r. ⌜ r ≡ receiverIn (now (state .entry)) ⌝ }
 {
     let settings = crate::settings_in(state);
-    let held = fragment(state[13], crate::number(state[14], state[15]));
+    let register = register_in(state);
+    let held = fragment(state[13], crate::number(state[14], state[15]), register);
     let last = last_block(state[22]);
     Receiver {
         zeros: state[21],
@@ -105,6 +117,7 @@ pub(crate) fn pack(state: &mut [u8; 64], r: Receiver)
     let last = r.last;
     let mark = held_octet(held);
     let count = held_count(held);
+    let register = r.carried();
     let block = last_octet(last);
     state[0] = 1;
     state[1] = settings.width;
@@ -122,10 +135,10 @@ pub(crate) fn pack(state: &mut [u8; 64], r: Receiver)
     state[13] = mark;
     state[14] = (count % 256) as u8;
     state[15] = (count / 256) as u8;
-    state[16] = 0;
-    state[17] = 0;
-    state[18] = 0;
-    state[19] = 0;
+    state[16] = (register % 256) as u8;
+    state[17] = (register / 256 % 256) as u8;
+    state[18] = (register / 65536 % 256) as u8;
+    state[19] = (register / 16777216) as u8;
     state[20] = r.left;
     state[21] = r.zeros;
     state[22] = block;
@@ -134,7 +147,7 @@ pub(crate) fn pack(state: &mut [u8; 64], r: Receiver)
     state[25] = r.refusal;
 }
 
-// Whether a call was taken: 2 and 3 refuse it, 5 to 14 are reports of a frame.
+// Whether a call was taken: 2 and 3 refuse it, all other refusals are reports of a frame.
 fn taken(report: Report) -> bool
     ensures { λ r. ⌜ r ≡ taken (reportAnswer report) ⌝ }
 {

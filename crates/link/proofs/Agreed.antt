@@ -1,11 +1,12 @@
--- What follows from valid settings: the width is one of two, and the numbers are small. The FCS is short whatever the settings.
+-- What follows from valid settings: the width is one of two, and the numbers are small. The check is sound and its FCS short, whatever the settings.
 use mathlib.Core.Bool.{true}
 use mathlib.Core.Path.{_≡_, refl}
 use Prim.Native.Nat.{_≤_}
 use native.Mathlib.Omega.{arith}
 use borrow.Author.Tests.{leb-true}
 use lib.Dec.{leb, eqb}
-use Rattle.fcs.specs.CheckSequence.{Check}
+use Rattle.fcs.specs.CheckSequence.{Check, Sound}
+use Rattle.fcs.proofs.Laws.{sound16, sound32}
 use Rattle.cobs.proofs.Tests.{branch, and-left, and-right}
 use Rattle.link.specs.Agreed.{Settings, Agreed, agreed, validWidth, validLimit, valid, leastPacket, largestLimit, largestFrame, mostDecoded}
 
@@ -25,6 +26,12 @@ valid-limit g v = and-right (validWidth g) (validLimit g) v
 
 pub limit-at-most : (g : Agreed) → valid g ≡ true → g .limit ≤ largestLimit
 limit-at-most g v = leb-true (g .limit) largestLimit (and-right (leb leastPacket (g .limit)) (leb (g .limit) largestLimit) (valid-limit g v))
+
+-- ---- the check
+
+pub sound-check : (t : Settings) → Sound (agreed t .check)
+unfolding agreed
+sound-check t = branch Sound (eqb (t .width) 32) (λ _. sound32) (λ _. sound16)
 
 -- ---- the numbers
 

@@ -12,14 +12,14 @@ use Rattle.cobs.proofs.Tests.{branch, decide}
 use Rattle.cobs.proofs.Table.{Row, read-row, numbers}
 use Rattle.cobs.proofs.Blocks.{nonzero-first, decoded-nil, decoded-cons, on-line-nil, on-line-cons}
 use Rattle.link.specs.Agreed.{Agreed, agreed, mostDecoded}
-use Rattle.link.specs.Receiver.{ReceiverEnd, lastBlock, work, steps1To4, receive}
+use Rattle.link.specs.Receiver.{ReceiverEnd, lastBlock, work, aside, steps1To4, receive}
 use Rattle.link.specs.Runs.{received}
 use Rattle.link.specs.Demands.{AnyBlocks}
 use Rattle.link.proofs.ReceiverBounds.{Ready, fit-work, receive-ready}
 use Rattle.link.proofs.ReadOn.{ready-of}
 use Rattle.link.proofs.Follow.{Ahead, Follows, Moved, follows-back, frame-long, code-opens, code-zeros, data-last, data-more, reports, starts}
 use Rattle.link.proofs.Lock.{passes, follows-at}
-use Rattle.link.proofs.Demands.{sound-check}
+use Rattle.link.proofs.Agreed.{sound-check}
 
 pub received-append : (e : ReceiverEnd) (xs ys : List ℕ) → received e (xs ++ ys) ≡ received (received e xs) ys
 unfolding received
@@ -51,7 +51,7 @@ module _ (g : Agreed) (d : List ℕ) (depth : length d ≤ mostDecoded g) where
     ready : Ready g e
     follows : Follows d pos n z (work e)
 
-  sent : (pos n z : ℕ) (e : ReceiverEnd) (x : ℕ) → Ready g e → (x ≡ 0 → ⊥) → Moved d pos n z (work e) (steps1To4 g (work e) x) → At pos n z (receive e (toLine x) .after)
+  sent : (pos n z : ℕ) (e : ReceiverEnd) (x : ℕ) → Ready g e → (x ≡ 0 → ⊥) → Moved d pos n z (work e) (steps1To4 g (aside e) (work e) x) → At pos n z (receive e (toLine x) .after)
   sent pos n z e x r nonzero m =
       record {
         ready = receive-ready g e (toLine x) r;
@@ -67,8 +67,8 @@ module _ (g : Agreed) (d : List ℕ) (depth : length d ≤ mostDecoded g) where
       let total : length (replicate z 0 ++ ys) ≡ z + length ys = length-append (replicate z 0) ys ∙ ap (λ (k : ℕ). k + length ys) (length-replicate z 0) in
       let is : getD d pos 0 ≡ x = ap (λ (i : ℕ). getD d i 0) (omega arith) ∙ there d pos _ 0 at in
       sent _ 0 0 e x (a .ready) (λ q. f (List·Memᴰ·head (sym q)))
-      (subst (λ (y : ℕ). Moved d (pos + (1 + z)) 0 0 (work e) (steps1To4 g (work e) y)) is
-      (data-last g d depth pos (work e) (fit-work g e (a .ready)) 1 z (a .follows) (omega arith) (omega (arith, size, total)) refl
+      (subst (λ (y : ℕ). Moved d (pos + (1 + z)) 0 0 (work e) (steps1To4 g (aside e) (work e) y)) is
+      (data-last g d depth pos (aside e) (work e) (fit-work g e (a .ready)) 1 z (a .follows) (omega arith) (omega (arith, size, total)) refl
       (λ i k. ap (λ (j : ℕ). getD d j 0) (omega arith) ∙ (there d pos _ (suc i) at ∙ zeros-first z i ys k))))
   takes x (y ∷ xs) pos z ys e f at a =
       let size = long d pos (x ∷ y ∷ xs) (replicate z 0 ++ ys) at in
@@ -77,9 +77,9 @@ module _ (g : Agreed) (d : List ℕ) (depth : length d ≤ mostDecoded g) where
       let n = length (x ∷ y ∷ xs) in
       let b : At (pos + 1) (length (y ∷ xs)) z (receive e (toLine x) .after) =
       sent _ _ z e x (a .ready) (λ q. f (List·Memᴰ·head (sym q)))
-      (subst (λ (k : ℕ). Moved d (pos + 1) k z (work e) (steps1To4 g (work e) x)) (omega arith)
-      (subst (λ (k : ℕ). Moved d (pos + 1) (n - 1) z (work e) (steps1To4 g (work e) k)) is
-      (data-more g d depth pos (work e) (fit-work g e (a .ready)) n z (a .follows) (omega arith) (omega (arith, size, total)) (λ q. omega arith)))) in
+      (subst (λ (k : ℕ). Moved d (pos + 1) k z (work e) (steps1To4 g (aside e) (work e) x)) (omega arith)
+      (subst (λ (k : ℕ). Moved d (pos + 1) (n - 1) z (work e) (steps1To4 g (aside e) (work e) k)) is
+      (data-more g d depth pos (aside e) (work e) (fit-work g e (a .ready)) n z (a .follows) (omega arith) (omega (arith, size, total)) (λ q. omega arith)))) in
       let c = takes y xs (pos + 1) z ys (receive e (toLine x) .after) (λ m. f (List·Memᴰ·tail m)) (behind d pos (x ∷ []) _ at) b in
       subst (λ (k : ℕ). At k 0 0 (received (receive e (toLine x) .after) (map toLine (y ∷ xs)))) (omega arith) c
 
@@ -109,12 +109,12 @@ module _ (g : Agreed) (d : List ℕ) (depth : length d ≤ mostDecoded g) where
         let size = long d pos (replicate z 0) ys at in
         subst (λ (k : ℕ). At k 0 0 (receive e (toLine c) .after)) (omega arith)
         (sent (pos + z) 0 0 e c (a .ready) (λ q. omega (arith, numbers row .code-some))
-        (code-zeros g d depth pos (work e) (fit-work g e (a .ready)) (a .follows) c 0 z row refl (omega (arith, size, length-replicate {A = ℕ} z 0))
+        (code-zeros g d depth pos (aside e) (work e) (fit-work g e (a .ready)) (a .follows) c 0 z row refl (omega (arith, size, length-replicate {A = ℕ} z 0))
         (λ i k. there d pos _ i at ∙ zeros-first z i ys k)))
     block c (x ∷ xs) z pos ys e row f within at a =
         takes x xs pos z ys (receive e (toLine c) .after) f at
         (sent pos (length (x ∷ xs)) z e c (a .ready) (λ q. omega (arith, numbers row .code-some))
-        (code-opens g d depth pos (work e) (fit-work g e (a .ready)) (a .follows) c (length (x ∷ xs)) z row (λ q. omega arith)
+        (code-opens g d depth pos (aside e) (work e) (fit-work g e (a .ready)) (a .follows) c (length (x ∷ xs)) z row (λ q. omega arith)
         (ahead c (length (x ∷ xs)) z pos (x ∷ xs) ys row refl (omega arith) f at)))
 
     -- all blocks

@@ -9,16 +9,17 @@ use borrow.Author.Tests.{ltb-false, le-ltb, eqb-true, eqb-false}
 use lib.Dec.{ltb, eqb}
 use lib.ListN.{length, take, replicate}
 use lib.Seq.{take-take}
-use Rattle.fcs.specs.CheckSequence.{good}
+use Rattle.fcs.specs.CheckSequence.{register, good}
 use Rattle.cobs.specs.CodeBlocks.{flag, fromLine, meaning}
 use Rattle.cobs.specs.declared.Meaning.{Meaning}
 use Rattle.cobs.specs.declared.Meaning.the-variants.{InTable, NotAgreed, NoCode}
 use Rattle.cobs.proofs.Tests.{decide}
 use Rattle.link.specs.Agreed.{Agreed, agreed, leastFrame, mostDecoded, valid}
 use Rattle.link.specs.Answers.{Answer, done, octet, idle, quiet, packet, held, refused}
-use Rattle.link.specs.Receiver.{Fragment, nothingHeld, holds, Receiver, Working, ReceiverEnd, Receive, Ended, withDue, step2BeginBlock, isNoBlock, isD0, inBounds, step4Remember, step4Refuse, step3Write, step3Decode, step3Data, lastBlock, step2ByMeaning, step2Code, letGo, step1ResumeHeld, step1D1, step1FirstOctet, steps1To4, step5End, step5Hold, step5WithoutPhantom, step5Flag, atFlag, areaOf, work, putBack, flagged, receive}
+use Rattle.link.specs.Receiver.{Fragment, nothingHeld, holds, Receiver, Working, ReceiverEnd, Receive, Ended, withDue, step2BeginBlock, isNoBlock, isD0, inBounds, step4Remember, step4Refuse, step3Write, step3Decode, step3Data, lastBlock, step2ByMeaning, step2Code, letGo, step1ResumeHeld, step1D1, step1FirstOctet, steps1To4, step5End, step5Hold, step5WithoutPhantom, step5Flag, atFlag, areaOf, work, aside, putBack, flagged, receive}
 use Rattle.link.specs.Runs.{receives, standsFor}
 use Rattle.link.specs.Demands.{heldOctets, Alike, AreasLongEnough, reportAndPacket, AreasAside}
+use Rattle.link.proofs.Tests.{not-not}
 use Rattle.link.proofs.Write.{length-write, take-write}
 use Rattle.link.proofs.ReceiverCases.{not-valid}
 use Rattle.link.proofs.ReceiverBounds.{Bounds, bounds, by-end, Ready, area-long, receive-flag, receive-other, receive-ready}
@@ -146,10 +147,14 @@ module _ (g : Agreed) (s : Receiver) (a₁ a₂ b₁ b₂ : List ℕ) (alike : A
 
   -- D1 that resumes what is held: the other area works
   resume-both : (h : Fragment) → s .held ≡ h
-      → Both (record { state = step1ResumeHeld h s; area = work e .area }) (record { state = step1ResumeHeld h s; area = work f .area })
+      → Both (record { state = step1ResumeHeld g (aside e) h s; area = work e .area }) (record { state = step1ResumeHeld g (aside f) h s; area = work f .area })
   unfolding step1ResumeHeld
   resume-both nothingHeld q = stays-both _ _ (record { same = refl; turn = refl; same-held = λ _ _ p. p; decoded = alike .decoded })
-  resume-both (holds n) q =
+  resume-both (holds n k) q =
+      let same·octets : take n (aside f) ≡ take n (aside e) = subst (λ (h : Fragment). heldOctets h (aside f) ≡ heldOctets h (aside e)) q (alike .held) in
+      rw (ap (register (g .check)) same·octets)
+      (branch₂ (λ r t. Both (record { state = r; area = work e .area }) (record { state = t; area = work f .area })) (eqb (register (g .check) (take n (aside e))) k)
+      (λ _.
       record {
         same = refl;
         after =
@@ -157,14 +162,14 @@ module _ (g : Agreed) (s : Receiver) (a₁ a₂ b₁ b₂ : List ℕ) (alike : A
               state = refl;
               decoded =
                   ap (take n) (aside-back (s .turn) b₁ b₂ (work f .area))
-                  ∙ (subst (λ (h : Fragment). heldOctets h (areaOf (not (s .turn)) f) ≡ heldOctets h (areaOf (not (s .turn)) e)) q (alike .held)
-                  ∙ sym (ap (take n) (aside-back (s .turn) a₁ a₂ (work e .area))));
+                  ∙ (same·octets ∙ sym (ap (take n) (aside-back (s .turn) a₁ a₂ (work e .area))));
               held = refl;
             };
-      }
+      })
+      (λ _. stays-both _ _ (record { same = refl; turn = refl; same-held = λ _ _ _. refl; decoded = alike .decoded })))
 
   module _ (la : mostDecoded g ≤ length (work e .area)) (lb : mostDecoded g ≤ length (work f .area)) (b : Bounds g s) where
-    steps-both : (x : ℕ) → Both (steps1To4 g (work e) x) (steps1To4 g (work f) x)
+    steps-both : (x : ℕ) → Both (steps1To4 g (aside e) (work e) x) (steps1To4 g (aside f) (work f) x)
     unfolding steps1To4 step1FirstOctet step1D1
     steps-both x =
         let wa = work e .area in
@@ -200,13 +205,11 @@ module _ (g : Agreed) (s : Receiver) (a₁ a₂ b₁ b₂ : List ℕ) (alike : A
       (λ _. record { same = refl; says = q; after = record { state = refl; decoded = refl; held = refl } })
       (λ _. record { same = refl; says = q; after = record { state = refl; decoded = refl; held = alike .held } })
 
-  hold-alike : FlagAlike (step5Hold s) (step5Hold s)
-  hold-alike = record { same = refl; says = refl; after = record { state = refl; decoded = refl; held = turned (s .turn) (alike .decoded) } }
+  hold-alike : FlagAlike (step5Hold g s (work e .area)) (step5Hold g s (work f .area))
+  hold-alike = record { same = rw (alike .decoded); says = refl; after = record { state = refl; decoded = refl; held = turned } }
     where
-      turned : (c : Bool) → take (s .decoded) (areaOf c f) ≡ take (s .decoded) (areaOf c e)
-          → take (s .decoded) (areaOf (not (not c)) f) ≡ take (s .decoded) (areaOf (not (not c)) e)
-      turned true q = q
-      turned false q = q
+      turned : take (s .decoded) (areaOf (not (not (s .turn))) f) ≡ take (s .decoded) (areaOf (not (not (s .turn))) e)
+      turned = rw (not-not (s .turn)) (alike .decoded)
 
   without-phantom-alike : (n : ℕ) → n ≤ s .decoded → FlagAlike (step5WithoutPhantom g s (work e .area) n) (step5WithoutPhantom g s (work f .area) n)
   unfolding step5WithoutPhantom

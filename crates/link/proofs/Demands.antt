@@ -6,12 +6,9 @@ use mathlib.Core.List.{List, [], _∷_, _++_, map, List·Memᴰ, List·Memᴰ·n
 use mathlib.Core.Option.{Option, none, some}
 use Prim.Native.Nat.{ℕ, _≤_}
 use native.Mathlib.Omega.{arith}
-use lib.Dec.{eqb}
 use lib.ListN.{length}
 use Rattle.fcs.specs.CheckSequence as check
-use Rattle.fcs.proofs.Laws.{sound16, sound32}
 use Rattle.cobs.specs.CodeBlocks.{flag}
-use Rattle.cobs.proofs.Tests.{branch}
 use Rattle.link.specs.Agreed.{Settings, Agreed, agreed, mostDecoded, valid}
 use Rattle.link.specs.Answers.{Answer, done, octet, idle, quiet, packet, held, refused}
 use Rattle.link.specs.Sender.{Lane, low, high, OnLine, noLane, sending, LaneState, Out, closes, breaksOff, sends, sendsNothing, refuses, next}
@@ -19,6 +16,7 @@ use Rattle.link.specs.Receiver.{ReceiverEnd, Receive, isHeld, receive}
 use Rattle.link.specs.Receiver as receiver
 use Rattle.link.specs.Runs.{Station, Written, SenderCall, loading, nextOctet, freshStation, writes, written, writtenOctets, atTrue, atFalse, receives, received, packetIn, refusalIn, refusalOf, standsFor, present, refusalsIn, underWay, endsItsFrame, asideAfter, leftAside, replacesAfter, AllArrive, ExpectedReport, AllAsExpected, closedBy, run, afterLoad, afterNext}
 use Rattle.link.specs.Demands.{freshReceiver, PacketsComeThrough, SoundLine, Demand3}
+use Rattle.link.proofs.Agreed.{sound-check}
 use Rattle.link.proofs.ReceiverBounds.{Ready, out-of-frame-in, flag-ends, receive-ready}
 use Rattle.link.proofs.Way.{sender}
 use Rattle.link.proofs.Sound.{station, Sound, sound-fresh, sound-run, sound-load, sound-next}
@@ -191,11 +189,6 @@ module _ (g : Agreed) (ql qh : LaneState) (n z : ℕ) (t : Settings) (al ah : Li
   start noLane u c q r out = record { ready = r; whose = λ _. refl; along = (out, held-at-flag u ql al e (r .bounds .out out .resumed·0)) }
 
 -- ---- the demands
-
--- the agreed check is sound, whatever the settings
-pub sound-check : (t : Settings) → check.Sound (agreed t .check)
-unfolding agreed
-sound-check t = branch check.Sound (eqb (t .width) 32) (λ _. sound32) (λ _. sound16)
 
 -- under way after a flag is a suspended low packet, and no other
 under-way-low : (o : OnLine) (u : Bool) → o ≡ noLane → underWayBy low o u ≡ u

@@ -9,7 +9,7 @@ use borrow.Author.Tests.{eqb-true, eqb-false, ltb-false, lt-ltb, le-ltb, ne-eqb,
 use lib.Dec.{ltb, eqb}
 use lib.ListN.{length, take, drop, replicate, length-append}
 use lib.Seq.{take-append-seam, drop-append-seam, take-take, drop-drop, take-at, drop-at, length-take-le}
-use Rattle.fcs.specs.CheckSequence.{good}
+use Rattle.fcs.specs.CheckSequence.{register, good}
 use Rattle.cobs.specs.CodeBlocks.{frame, flag, fromLine, meaning}
 use Rattle.cobs.specs.declared.Meaning.{Meaning}
 use Rattle.cobs.specs.declared.Meaning.the-variants.{InTable, NotAgreed, NoCode}
@@ -18,7 +18,7 @@ use Rattle.cobs.proofs.Exchange.{from-line}
 use Rattle.link.specs.Agreed.{Agreed, agreed, leastFrame, mostDecoded, valid}
 use Rattle.link.specs.Answers.{Answer, done, octet, idle, quiet, packet, held, refused}
 use Rattle.link.specs.Sender.{Lane, low, high, OnLine, noLane, Sender, SenderEnd, closes, Step, emptyLane, laneState, outAnswer, putFrame, load, next, Load}
-use Rattle.link.specs.Receiver.{Fragment, nothingHeld, holds, Receiver, Working, ReceiverEnd, Receive, Ended, isNoBlock, isD0, write, step4Refuse, step3Write, step3Decode, step3Data, step2ByMeaning, step2Code, step1ResumeHeld, step1D1, step1FirstOctet, steps1To4, step5End, step5WithoutPhantom, step5Flag, atFlag, work, putBack, flagged, receive}
+use Rattle.link.specs.Receiver.{Fragment, nothingHeld, holds, Receiver, Working, ReceiverEnd, Receive, Ended, isNoBlock, isD0, write, step4Refuse, step3Write, step3Decode, step3Data, step2ByMeaning, step2Code, step1ResumeHeld, step1D1, step1FirstOctet, steps1To4, step5End, step5WithoutPhantom, step5Flag, atFlag, work, aside, putBack, flagged, receive}
 use Rattle.link.specs.Receiver as receiver
 use Rattle.link.specs.EachCall.{RefusedChangesNothing, IdleChangesNothing, Loads, DoneLoads, SettingsStay, ClosedIsEmpty, TakesIn, BlockOver, Resumes, HeldThen, NotHeldThen, EndsFrame, ReceivesSo, ValidFirst, AreasThenState}
 use Rattle.link.proofs.Tests.{if-so, if-not, true-false, not-below, one-short, none-short}
@@ -28,8 +28,8 @@ use Rattle.link.proofs.Write.{length-write, take-write}
 use Rattle.link.proofs.ReceiverBounds as heard
 use Rattle.link.proofs.ReceiverCases.{not-valid, too-short, out-of-bounds}
 use Rattle.link.proofs.ReadOn.{ready-of, first-stays, second-stays}
-use Rattle.link.proofs.Follow.{work-back, aside-back}
-use Rattle.link.proofs.Resumed.{D1-is}
+use Rattle.link.proofs.Follow.{work-back, aside-back, resume-is}
+use Rattle.link.proofs.Resumed.{D1-does}
 use Rattle.link.proofs.SenderBounds as sent
 use Rattle.link.proofs.sender.Load.{holds-a-frame}
 
@@ -309,35 +309,35 @@ module _ (g : Agreed) where
     code-moves c NoCode = unwritten 7 w
 
     -- D1 that resumes nothing
-    D1-moves : (g .pre ≡ true → w .state .held ≡ nothingHeld) → Keeps w (record { state = step1D1 g (w .state); area = w .area })
+    D1-moves : (o : List ℕ) → (g .pre ≡ true → w .state .held ≡ nothingHeld) → Keeps w (record { state = step1D1 g o (w .state); area = w .area })
     unfolding step1D1 step1ResumeHeld
-    D1-moves none·held =
+    D1-moves o none·held =
         branch (λ (r : Receiver). Keeps w (record { state = r; area = w .area })) (g .pre)
-        (λ pre. subst (λ (k : Fragment). Keeps w (record { state = step1ResumeHeld k (w .state); area = w .area })) (sym (none·held pre)) (stays w _ refl refl refl))
+        (λ pre. subst (λ (k : Fragment). Keeps w (record { state = step1ResumeHeld g o k (w .state); area = w .area })) (sym (none·held pre)) (stays w _ refl refl refl))
         (λ _. stays w _ refl refl refl)
 
     -- in a frame, and at its first octet
-    inside : (x : ℕ) → w .state .framed ≡ true → Keeps w (steps1To4 g w x)
+    inside : (o : List ℕ) (x : ℕ) → w .state .framed ≡ true → Keeps w (steps1To4 g o w x)
     unfolding steps1To4 step2Code
-    inside x f =
+    inside o x f =
         branch (Keeps w) (not (eqb (w .state .refusal) 0)) (λ _. stays w (w .state) refl refl refl)
         (λ _. branch (Keeps w) (not (w .state .framed)) (λ out. true-false (sym f ∙ not-true (w .state .framed) out))
         (λ _. branch (Keeps w) (ltb 0 (w .state .left)) (λ _. data-moves x) (λ _. code-moves x (meaning (g .zxe) x))))
 
-    first-moves : (x : ℕ) → (x ≡ 0xD1 → g .pre ≡ true → w .state .held ≡ nothingHeld)
-        → Moves (cond (eqb x 0xFF) nothingHeld (w .state .held)) w (step1FirstOctet g w x)
+    first-moves : (o : List ℕ) (x : ℕ) → (x ≡ 0xD1 → g .pre ≡ true → w .state .held ≡ nothingHeld)
+        → Moves (cond (eqb x 0xFF) nothingHeld (w .state .held)) w (step1FirstOctet g o w x)
     unfolding step1FirstOctet step2Code
-    first-moves x h =
+    first-moves o x h =
         decide (eqb x 0xFF) (λ e. rw e (stays w _ refl refl refl))
-        (λ e. rw e (branch (Keeps w) (eqb x 0xD1) (λ d. D1-moves (h (eqb-true x 0xD1 d))) (λ _. code-moves x (meaning (g .zxe) x))))
+        (λ e. rw e (branch (Keeps w) (eqb x 0xD1) (λ d. D1-moves o (h (eqb-true x 0xD1 d))) (λ _. code-moves x (meaning (g .zxe) x))))
 
-    octet-moves : (x : ℕ) → heard.Bounds g (w .state) → (w .state .framed ≡ false → x ≡ 0xD1 → g .pre ≡ true → w .state .held ≡ nothingHeld)
-        → Moves (cond (not (w .state .framed) && eqb x 0xFF) nothingHeld (w .state .held)) w (steps1To4 g w x)
-    octet-moves x b h =
-        decide (w .state .framed) (λ f. subst (λ (k : Bool). Moves (cond (not k && eqb x 0xFF) nothingHeld (w .state .held)) w (steps1To4 g w x)) (sym f) (inside x f))
+    octet-moves : (o : List ℕ) (x : ℕ) → heard.Bounds g (w .state) → (w .state .framed ≡ false → x ≡ 0xD1 → g .pre ≡ true → w .state .held ≡ nothingHeld)
+        → Moves (cond (not (w .state .framed) && eqb x 0xFF) nothingHeld (w .state .held)) w (steps1To4 g o w x)
+    octet-moves o x b h =
+        decide (w .state .framed) (λ f. subst (λ (k : Bool). Moves (cond (not k && eqb x 0xFF) nothingHeld (w .state .held)) w (steps1To4 g o w x)) (sym f) (inside o x f))
         (λ f.
-        subst (λ (k : Bool). Moves (cond (not k && eqb x 0xFF) nothingHeld (w .state .held)) w (steps1To4 g w x)) (sym f)
-        (subst (Moves (cond (eqb x 0xFF) nothingHeld (w .state .held)) w) (sym (heard.first-octet g w x b f)) (first-moves x (h f))))
+        subst (λ (k : Bool). Moves (cond (not k && eqb x 0xFF) nothingHeld (w .state .held)) w (steps1To4 g o w x)) (sym f)
+        (subst (Moves (cond (eqb x 0xFF) nothingHeld (w .state .held)) w) (sym (heard.first-octet g o w x b f)) (first-moves o x (h f))))
 
 -- ---- whether the frame is a resumed one
 
@@ -364,24 +364,24 @@ module _ (g : Agreed) (w : Working) where
   code-same c NotAgreed = refl
   code-same c NoCode = refl
 
-  D1-marks : (k : Fragment) → step1ResumeHeld k (w .state) .resumed ≡ true
+  D1-marks : (o : List ℕ) (h : Fragment) → step1ResumeHeld g o h (w .state) .resumed ≡ true
   unfolding step1ResumeHeld
-  D1-marks nothingHeld = refl
-  D1-marks (holds n) = refl
+  D1-marks o nothingHeld = refl
+  D1-marks o (holds n k) = branch (λ (r : Receiver). r .resumed ≡ true) (eqb (register (g .check) (take n o)) k) (λ _. refl) (λ _. refl)
 
   -- a first octet, where the mark is not set
-  first-marks : (x : ℕ) → m ≡ false → step1FirstOctet g w x .state .resumed ≡ eqb x 0xD1
+  first-marks : (o : List ℕ) (x : ℕ) → m ≡ false → step1FirstOctet g o w x .state .resumed ≡ eqb x 0xD1
   unfolding step1FirstOctet step1D1 step2Code
-  first-marks x none =
+  first-marks o x none =
       branch (λ (v : Working). v .state .resumed ≡ eqb x 0xD1) (eqb x 0xFF)
       (λ e. none ∙ sym (ne-eqb x 0xD1 (λ q. omega (arith, eqb-true x 0xFF e))))
       (λ _. branch (λ (v : Working). v .state .resumed ≡ eqb x 0xD1) (eqb x 0xD1)
-      (λ e. branch (λ (r : Receiver). r .resumed ≡ eqb x 0xD1) (g .pre) (λ _. D1-marks (w .state .held) ∙ sym e) (λ _. sym e))
+      (λ e. branch (λ (r : Receiver). r .resumed ≡ eqb x 0xD1) (g .pre) (λ _. D1-marks o (w .state .held) ∙ sym e) (λ _. sym e))
       (λ e. code-same x (meaning (g .zxe) x) ∙ (none ∙ sym e)))
 
-  marks : (x : ℕ) → heard.Bounds g (w .state) → steps1To4 g w x .state .resumed ≡ cond (w .state .framed) m (eqb x 0xD1)
+  marks : (o : List ℕ) (x : ℕ) → heard.Bounds g (w .state) → steps1To4 g o w x .state .resumed ≡ cond (w .state .framed) m (eqb x 0xD1)
   unfolding steps1To4 step2Code
-  marks x b =
+  marks o x b =
       let P : Working → Type 0 = λ v. v .state .resumed ≡ cond (w .state .framed) m (eqb x 0xD1) in
       branch P (not (eqb (w .state .refusal) 0))
       (λ some.
@@ -390,59 +390,75 @@ module _ (g : Agreed) (w : Working) where
       (λ _. branch P (not (w .state .framed))
       (λ out.
       let off : w .state .framed ≡ false = not-true (w .state .framed) out in
-      first-marks x (b .out off .resumed·0) ∙ sym (if-not _ _ _ off))
+      first-marks o x (b .out off .resumed·0) ∙ sym (if-not _ _ _ off))
       (λ inside.
       let on : w .state .framed ≡ true = not-false (w .state .framed) inside in
       branch P (ltb 0 (w .state .left)) (λ _. data-same x ∙ sym (if-so _ _ _ on)) (λ _. code-same x (meaning (g .zxe) x) ∙ sym (if-so _ _ _ on))))
 
 -- ---- a refusal that is remembered, and the settings
 
-record Remembers (w v : Working) : Type 0 where
+-- what is held, in the area o, does not give the register that is carried
+abbrev pub NoLongerGives : Agreed → List ℕ → Fragment → Type 0
+NoLongerGives g o nothingHeld = ⊥
+NoLongerGives g o (holds n k) = register (g .check) (take n o) ≡ k → ⊥
+
+-- where 21 is remembered, what was held was changed
+record Remembers (g : Agreed) (o : List ℕ) (w v : Working) : Type 0 where
   over : (v .state .refusal ≡ 0 → ⊥) → BlockOver (v .state)
+  changed : v .state .refusal ≡ 21 → NoLongerGives g o (w .state .held)
   settings·is : v .state .settings ≡ w .state .settings
 
-module _ (g : Agreed) (w : Working) where
-  refused-so : (n : ℕ) (v : Working) → v .state .settings ≡ w .state .settings → Remembers w (step4Refuse n v)
-  refused-so n v e = record { over = λ _. record { left = refl; zeros = refl; last = refl }; settings·is = e }
+module _ (g : Agreed) (o : List ℕ) (w : Working) where
+  abbrev So : Working → Type 0
+  So v = Remembers g o w v
 
-  clean-so : (v : Working) → v .state .refusal ≡ 0 → v .state .settings ≡ w .state .settings → Remembers w v
-  clean-so v c e = record { over = λ f. absurd (f c); settings·is = e }
+  remembers : (n : ℕ) (resumed : Bool) (r : Receiver) → (n ≡ 21 → NoLongerGives g o (w .state .held)) → r .settings ≡ w .state .settings
+      → So (record { state = receiver.step4Remember n resumed r; area = w .area })
+  remembers n resumed r f e = record { over = λ _. record { left = refl; zeros = refl; last = refl }; changed = f; settings·is = e }
 
-  decode-so : (xs : List ℕ) (v : Working) → v .state .refusal ≡ 0 → v .state .settings ≡ w .state .settings → Remembers w (step3Decode g xs v)
+  refused-so : (n : ℕ) (v : Working) → n < 21 → v .state .settings ≡ w .state .settings → So (step4Refuse n v)
+  refused-so n v h e = record { over = λ _. record { left = refl; zeros = refl; last = refl }; changed = λ q. absurd (omega arith); settings·is = e }
+
+  clean-so : (v : Working) → v .state .refusal ≡ 0 → v .state .settings ≡ w .state .settings → So v
+  clean-so v c e = record { over = λ f. absurd (f c); changed = λ q. absurd (omega arith); settings·is = e }
+
+  decode-so : (xs : List ℕ) (v : Working) → v .state .refusal ≡ 0 → v .state .settings ≡ w .state .settings → So (step3Decode g xs v)
   unfolding step3Decode
-  decode-so xs v c e = branch (Remembers w) (ltb (mostDecoded g) (v .state .decoded + length xs)) (λ _. refused-so 10 v e) (λ _. clean-so (step3Write xs v) c e)
+  decode-so xs v c e = branch So (ltb (mostDecoded g) (v .state .decoded + length xs)) (λ _. refused-so 10 v (omega arith) e) (λ _. clean-so (step3Write xs v) c e)
 
   module _ (c : w .state .refusal ≡ 0) where
-    data-so : (x : ℕ) → Remembers w (step3Data g w x)
+    data-so : (x : ℕ) → So (step3Data g w x)
     unfolding step3Data
     data-so x =
-        branch (Remembers w) (ltb (mostDecoded g) (w .state .decoded + 1)) (λ _. refused-so 10 w refl)
-        (λ _. branch (Remembers w) (eqb (w .state .left) 1) (λ _. decode-so (replicate (w .state .zeros) 0) _ c refl) (λ _. clean-so _ c refl))
+        branch So (ltb (mostDecoded g) (w .state .decoded + 1)) (λ _. refused-so 10 w (omega arith) refl)
+        (λ _. branch So (eqb (w .state .left) 1) (λ _. decode-so (replicate (w .state .zeros) 0) _ c refl) (λ _. clean-so _ c refl))
 
-    code-so : (x : ℕ) (k : Meaning) → Remembers w (step2ByMeaning g w x k)
+    code-so : (x : ℕ) (k : Meaning) → So (step2ByMeaning g w x k)
     unfolding step2ByMeaning
-    code-so x (InTable n z) = branch (Remembers w) (eqb n 0) (λ _. decode-so (replicate z 0) _ c refl) (λ _. clean-so _ c refl)
-    code-so x NotAgreed = refused-so 6 w refl
-    code-so x NoCode = refused-so 7 w refl
+    code-so x (InTable n z) = branch So (eqb n 0) (λ _. decode-so (replicate z 0) _ c refl) (λ _. clean-so _ c refl)
+    code-so x NotAgreed = refused-so 6 w (omega arith) refl
+    code-so x NoCode = refused-so 7 w (omega arith) refl
 
-    D1-so : (k : Fragment) → Remembers w (record { state = step1ResumeHeld k (w .state); area = w .area })
+    D1-so : (h : Fragment) → w .state .held ≡ h → So (record { state = step1ResumeHeld g o h (w .state); area = w .area })
     unfolding step1ResumeHeld
-    D1-so nothingHeld = record { over = λ _. record { left = refl; zeros = refl; last = refl }; settings·is = refl }
-    D1-so (holds n) = clean-so _ refl refl
+    D1-so nothingHeld e = remembers 8 true (w .state) (λ q. absurd (omega arith)) refl
+    D1-so (holds n k) e =
+        branch (λ (r : Receiver). So (record { state = r; area = w .area })) (eqb (register (g .check) (take n o)) k) (λ _. clean-so _ refl refl)
+        (λ q. remembers 21 true (receiver.letGo (w .state)) (λ _. subst (NoLongerGives g o) (sym e) (eqb-false _ k q)) refl)
 
-    octet-so : (x : ℕ) → Remembers w (steps1To4 g w x)
+    octet-so : (x : ℕ) → So (steps1To4 g o w x)
     unfolding steps1To4 step1FirstOctet step1D1 step2Code
     octet-so x =
-        branch (Remembers w) (not (eqb (w .state .refusal) 0)) (λ k. absurd (eqb-false (w .state .refusal) 0 (not-true (eqb (w .state .refusal) 0) k) c))
-        (λ _. branch (Remembers w) (not (w .state .framed))
-        (λ _. branch (Remembers w) (eqb x 0xFF) (λ _. refused-so 5 (record { state = receiver.letGo (w .state); area = w .area }) refl)
-        (λ _. branch (Remembers w) (eqb x 0xD1)
-        (λ _. branch (λ (r : Receiver). Remembers w (record { state = r; area = w .area })) (g .pre) (λ _. D1-so (w .state .held))
-        (λ _. record { over = λ _. record { left = refl; zeros = refl; last = refl }; settings·is = refl }))
+        branch So (not (eqb (w .state .refusal) 0)) (λ k. absurd (eqb-false (w .state .refusal) 0 (not-true (eqb (w .state .refusal) 0) k) c))
+        (λ _. branch So (not (w .state .framed))
+        (λ _. branch So (eqb x 0xFF) (λ _. remembers 5 (w .state .resumed) (receiver.letGo (w .state)) (λ q. absurd (omega arith)) refl)
+        (λ _. branch So (eqb x 0xD1)
+        (λ _. branch (λ (r : Receiver). So (record { state = r; area = w .area })) (g .pre) (λ _. D1-so (w .state .held) refl)
+        (λ _. remembers 6 true (w .state) (λ q. absurd (omega arith)) refl))
         (λ _. code-so x (meaning (g .zxe) x))))
-        (λ _. branch (Remembers w) (ltb 0 (w .state .left)) (λ _. data-so x) (λ _. code-so x (meaning (g .zxe) x))))
+        (λ _. branch So (ltb 0 (w .state .left)) (λ _. data-so x) (λ _. code-so x (meaning (g .zxe) x))))
 
-  octet-settings : (x : ℕ) → steps1To4 g w x .state .settings ≡ w .state .settings
+  octet-settings : (x : ℕ) → steps1To4 g o w x .state .settings ≡ w .state .settings
   unfolding steps1To4
   octet-settings x =
       decide (eqb (w .state .refusal) 0) (λ c. octet-so (eqb-true (w .state .refusal) 0 c) x .settings·is)
@@ -470,7 +486,7 @@ receive-settings e x =
     branch P (not (valid g)) (λ _. refl)
     (λ _. branch P (ltb (length (e .first)) (mostDecoded g) || ltb (length (e .second)) (mostDecoded g)) (λ _. refl)
     (λ _. branch P (not (receiver.inBounds g (e .state))) (λ _. refl)
-    (λ _. branch P (eqb x flag) (λ _. flag-settings g (e .state) (work e .area)) (λ _. octet-settings g (work e) (fromLine x)))))
+    (λ _. branch P (eqb x flag) (λ _. flag-settings g (e .state) (work e .area)) (λ _. octet-settings g (aside e) (work e) (fromLine x)))))
 
 pub settings-stay : SettingsStay
 settings-stay =
@@ -494,7 +510,7 @@ put-back-writes x e w m =
 
 module _ (g : Agreed) (e : ReceiverEnd) where
   abbrev Ends : Ended → Type 0
-  Ends t = HeldThen (e .state) (flagged e t) ⊎ NotHeldThen (e .state) (flagged e t)
+  Ends t = HeldThen e (flagged e t) ⊎ NotHeldThen (e .state) (flagged e t)
 
   ends-so : (a : Answer) → ((n : ℕ) (replaced : Bool) → a ≡ held n replaced → ⊥) → (a ≡ quiet → ⊥) → Ends (step5End a (e .state))
   ends-so a h q =
@@ -514,19 +530,19 @@ module _ (g : Agreed) (e : ReceiverEnd) where
       branch Ends (ltb n (leastFrame g)) (λ _. ends-refused 13)
       (λ _. branch Ends (good (g .check) (take n area)) (λ _. ends-packet (e .state .turn) (n - g .check .fcsLength)) (λ _. ends-refused 14))
 
-  flag-reports : (area : List ℕ) → Ends (step5Flag g (e .state) area)
+  flag-reports : agreed (e .state .settings) ≡ g → Ends (step5Flag g (e .state) (work e .area))
   unfolding step5Flag
-  flag-reports area =
+  flag-reports agrees =
       branch Ends (not (eqb (e .state .refusal) 0)) (λ _. ends-refused (e .state .refusal))
       (λ _. branch Ends (isNoBlock (e .state .last)) (λ _. ends-refused 9)
-      (λ _. branch Ends (ltb 0 (e .state .left)) (λ _. branch Ends (g .pre) (λ _. inl (refl, refl)) (λ _. ends-refused 11))
-      (λ _. branch Ends (isD0 (e .state .last)) (λ _. ends-refused 12) (λ _. whole-reports area (e .state .decoded - 1)))))
+      (λ _. branch Ends (ltb 0 (e .state .left)) (λ _. branch Ends (g .pre) (λ _. inl (refl, rw agrees)) (λ _. ends-refused 11))
+      (λ _. branch Ends (isD0 (e .state .last)) (λ _. ends-refused 12) (λ _. whole-reports (work e .area) (e .state .decoded - 1)))))
 
   module _ (z : heard.Ready g e) where
     flag-of-frame : e .state .framed ≡ true → EndsFrame e (receive e flag)
     unfolding atFlag
     flag-of-frame f =
-        rw (heard.receive-flag g e z ∙ ap (flagged e) (if-so _ _ _ f)) (record { first = refl; second = refl; report = flag-reports (work e .area) })
+        rw (heard.receive-flag g e z ∙ ap (flagged e) (if-so _ _ _ f)) (record { first = refl; second = refl; report = flag-reports (z .agrees) })
 
     flag-of-none : e .state .framed ≡ false → receive e flag ≡ record { report = quiet; after = e }
     unfolding atFlag
@@ -540,15 +556,12 @@ module _ (g : Agreed) (e : ReceiverEnd) where
         ap (λ (r : Receive). r .after) (heard.receive-other g e z x f)
         ∙ (ap (putBack e) (if-so _ _ _ (ap not (ne-eqb (e .state .refusal) 0 some))) ∙ put-back-same e)
 
-    resumed-by-D1 : e .state .framed ≡ false → g .pre ≡ true → (n : ℕ) → e .state .held ≡ holds n → Resumes n e (receive e 0xD1 .after)
-    unfolding step1D1 step1ResumeHeld
-    resumed-by-D1 out pre n h =
-        let is : receive e 0xD1 .after ≡ putBack e (record { state = step1ResumeHeld (holds n) (e .state); area = work e .area }) =
-        ap (λ (r : Receive). r .after) (heard.receive-other g e z 0xD1 (λ q. omega arith))
-        ∙ ap (putBack e)
-        (ap (steps1To4 g (work e)) (from-line 0xD1 (λ q. omega arith))
-        ∙ (D1-is g e z out
-        ∙ ap (λ (s : Receiver). record { state = s; area = work e .area }) (if-so _ _ _ pre ∙ ap (λ (k : Fragment). step1ResumeHeld k (e .state)) h))) in
+    pub resumed-by-D1 : e .state .framed ≡ false → g .pre ≡ true → (n k : ℕ) → e .state .held ≡ holds n k → register (g .check) (take n (aside e)) ≡ k
+        → (x : ℕ) → (x ≡ flag → ⊥) → fromLine x ≡ 0xD1 → Resumes n e (receive e x .after)
+    resumed-by-D1 out pre n k h same x other x·is =
+        let is : receive e x .after ≡ putBack e (record { state = receiver.step1Resume n (receiver.letGo (e .state)); area = work e .area }) =
+        ap (λ (r : Receive). r .after) (D1-does g e z out x other x·is)
+        ∙ ap (λ (s : Receiver). putBack e (record { state = s; area = work e .area })) (resume-is g e z n k h pre same) in
         rw is
         (record {
           turn = refl;
@@ -561,13 +574,16 @@ module _ (g : Agreed) (e : ReceiverEnd) where
     octet-writes : (x : ℕ) → (x ≡ flag → ⊥) → (e .state .framed ≡ false → fromLine x ≡ 0xD1 → g .pre ≡ true → e .state .held ≡ nothingHeld)
         → TakesIn x e (receive e x .after)
     octet-writes x f h =
-        rw (heard.receive-other g e z x f) (put-back-writes x e _ (octet-moves g (work e) (heard.fit-work g e z .long) (fromLine x) (z .bounds) h))
+        rw (heard.receive-other g e z x f) (put-back-writes x e _ (octet-moves g (work e) (heard.fit-work g e z .long) (aside e) (fromLine x) (z .bounds) h))
 
     octet-remembers : e .state .refusal ≡ 0 → (x : ℕ) → (x ≡ flag → ⊥) → (receive e x .after .state .refusal ≡ 0 → ⊥) → BlockOver (receive e x .after .state)
-    octet-remembers c x f = rw (heard.receive-other g e z x f) (octet-so g (work e) c (fromLine x) .over)
+    octet-remembers c x f = rw (heard.receive-other g e z x f) (octet-so g (aside e) (work e) c (fromLine x) .over)
+
+    pub octet-changed : e .state .refusal ≡ 0 → (x : ℕ) → (x ≡ flag → ⊥) → receive e x .after .state .refusal ≡ 21 → NoLongerGives g (aside e) (e .state .held)
+    octet-changed c x f = rw (heard.receive-other g e z x f) (octet-so g (aside e) (work e) c (fromLine x) .changed)
 
     octet-marks : (x : ℕ) → (x ≡ flag → ⊥) → receive e x .after .state .resumed ≡ cond (e .state .framed) (e .state .resumed) (eqb (fromLine x) 0xD1)
-    octet-marks x f = ap (λ (h : Receive). h .after .state .resumed) (heard.receive-other g e z x f) ∙ marks g (work e) (fromLine x) (z .bounds)
+    octet-marks x f = ap (λ (h : Receive). h .after .state .resumed) (heard.receive-other g e z x f) ∙ marks g (work e) (aside e) (fromLine x) (z .bounds)
 
 pub receives-so : ReceivesSo
 receives-so =
@@ -578,6 +594,6 @@ receives-so =
       skipped = λ e r some x f. skips (agreed (e .state .settings)) e (ready-of e r) x f some;
       remembered = λ e r c x f k. octet-remembers (agreed (e .state .settings)) e (ready-of e r) c x f k;
       mark = λ e r x f. octet-marks (agreed (e .state .settings)) e (ready-of e r) x f;
-      resumes = λ e r out pre n h. resumed-by-D1 (agreed (e .state .settings)) e (ready-of e r) out pre n h;
+      resumes = λ e r out pre n k h same. resumed-by-D1 (agreed (e .state .settings)) e (ready-of e r) out pre n k h same 0xD1 (λ q. omega arith) (from-line 0xD1 (λ q. omega arith));
       takesIn = λ e r x f h. octet-writes (agreed (e .state .settings)) e (ready-of e r) x f h;
     }

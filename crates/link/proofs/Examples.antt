@@ -21,7 +21,7 @@ use Rattle.link.specs.Demands.{freshReceiver}
 use Rattle.link.specs.Receiver.{nothingHeld, Receive, openedReceiver, step3Decode, step3Data, step2ByMeaning, step2Code, step1ResumeHeld, step1D1, step1FirstOctet, steps1To4, step5WithoutPhantom, step5Flag, atFlag, receive}
 use Rattle.link.specs.Receiver as receiver
 use Rattle.link.specs.Runs.{afterLoad, afterNext, run, senderAnswers, written, receives, notQuiet, received}
-use Rattle.link.specs.Examples.{OtherBitsIgnored, AgreedLengths, PacketLengths, Example, Tells, settingsExamples, widthExamples, limitExamples, largestExamples, agreeing, area, codeExamples, callExamples, senderBounds, receiverBounds, emptyExamples, frameExamples, heldExamples, examples, Examples}
+use Rattle.link.specs.Examples.{OtherBitsIgnored, AgreedLengths, PacketLengths, Example, Tells, settingsExamples, widthExamples, limitExamples, largestExamples, agreeing, area, codeExamples, callExamples, senderBounds, receiverBounds, emptyExamples, frameExamples, heldExamples, changedExamples, examples, Examples}
 use Rattle.link.proofs.UnderWay.{lanes}
 use Rattle.link.proofs.Sound.{sound-fresh}
 use Rattle.link.proofs.SenderBounds as sent
@@ -164,7 +164,7 @@ sender-bounds = (refl, (refl, (refl, (refl, (refl, (refl, (refl, (refl, (refl, (
 
 receiver-bounds : AllHold receiverBounds
 unfolding run received senderAnswers written receives notQuiet afterLoad afterNext agreed valid putFrame load step4BreakOff step5Data step6Code steps3To6 step2NoLane steps1To6 next sender.inBounds step3Decode step3Data step2ByMeaning step2Code step1ResumeHeld step1D1 step1FirstOctet steps1To4 step5WithoutPhantom step5Flag atFlag receive receiver.inBounds inRange codeTable meaning toLine fromLine leading choice _⊕_ bitStep bitSteps entry octetStep feed register lowFirst fcs good
-receiver-bounds = (refl, (refl, (refl, (refl, (refl, (refl, (refl, (refl, (refl, (refl, (refl, (refl, (refl, (refl, (refl, (refl, (refl, (refl, (refl, (refl, (refl, (refl, (refl, (refl, (refl, (refl, (refl, (refl, tt))))))))))))))))))))))))))))
+receiver-bounds = (refl, (refl, (refl, (refl, (refl, (refl, (refl, (refl, (refl, (refl, (refl, (refl, (refl, (refl, (refl, (refl, (refl, (refl, (refl, (refl, (refl, (refl, (refl, (refl, (refl, (refl, (refl, (refl, (refl, (refl, (refl, (refl, (refl, (refl, (refl, (refl, (refl, (refl, tt))))))))))))))))))))))))))))))))))))))
 
 empty-holds : AllHold emptyExamples
 unfolding run received senderAnswers written receives notQuiet afterLoad afterNext agreed valid putFrame load step4BreakOff step5Data step6Code steps3To6 step2NoLane steps1To6 next sender.inBounds step3Decode step3Data step2ByMeaning step2Code step1ResumeHeld step1D1 step1FirstOctet steps1To4 step5WithoutPhantom step5Flag atFlag receive receiver.inBounds inRange codeTable meaning toLine fromLine leading choice _⊕_ bitStep bitSteps entry octetStep feed register lowFirst fcs good
@@ -178,13 +178,17 @@ held-holds : AllHold heldExamples
 unfolding run received senderAnswers written receives notQuiet afterLoad afterNext agreed valid putFrame load step4BreakOff step5Data step6Code steps3To6 step2NoLane steps1To6 next sender.inBounds step3Decode step3Data step2ByMeaning step2Code step1ResumeHeld step1D1 step1FirstOctet steps1To4 step5WithoutPhantom step5Flag atFlag receive receiver.inBounds inRange codeTable meaning toLine fromLine leading choice _⊕_ bitStep bitSteps entry octetStep feed register lowFirst fcs good
 held-holds = (refl, (refl, (refl, (refl, (refl, (refl, (refl, (refl, (refl, (refl, (refl, (refl, (refl, (refl, (refl, (refl, (refl, (refl, (refl, (refl, (refl, (refl, tt))))))))))))))))))))))
 
+changes-hold : AllHold changedExamples
+unfolding run received senderAnswers written receives notQuiet afterLoad afterNext agreed valid putFrame load step4BreakOff step5Data step6Code steps3To6 step2NoLane steps1To6 next sender.inBounds step3Decode step3Data step2ByMeaning step2Code step1ResumeHeld step1D1 step1FirstOctet steps1To4 step5WithoutPhantom step5Flag atFlag receive receiver.inBounds inRange codeTable meaning toLine fromLine leading choice _⊕_ bitStep bitSteps entry octetStep feed register lowFirst fcs good
+changes-hold = (refl, (refl, (refl, (refl, (refl, (refl, (refl, (refl, (refl, (refl, (refl, (refl, (refl, (refl, (refl, (refl, (refl, tt)))))))))))))))))
+
 join : (xs ys : List Example) → AllHold xs → AllHold ys → AllHold (xs ++ ys)
 join [] ys h k = k
 join (x ∷ xs) ys h k = (h .0, join xs ys (h .1) k)
 
 all : AllHold examples
 all =
-    let f = frameExamples ++ heldExamples in
+    let f = frameExamples ++ (heldExamples ++ changedExamples) in
     let e = emptyExamples ++ f in
     let r = receiverBounds ++ e in
     let b = senderBounds ++ r in
@@ -197,7 +201,7 @@ all =
     (join codeExamples c codes-hold
     (join callExamples b calls-hold
     (join senderBounds r sender-bounds
-    (join receiverBounds e receiver-bounds (join emptyExamples f empty-holds (join frameExamples heldExamples frames-hold held-holds)))))))))
+    (join receiverBounds e receiver-bounds (join emptyExamples f empty-holds (join frameExamples (heldExamples ++ changedExamples) frames-hold (join heldExamples changedExamples held-holds changes-hold))))))))))
 
 each : (xs : List Example) → AllHold xs → (x : Example) → List·Memᴰ x xs → Tells x
 each [] t x m = absurd (List·Memᴰ·not-nil m)

@@ -9,7 +9,7 @@ use borrow.Author.Tests.{eqb-true, lt-ltb, le-ltb, eq-eqb, ne-eqb}
 use lib.Dec.{ltb, eqb}
 use lib.ListN.{length, take, drop, getD, replicate, length-append, length-drop, length-replicate}
 use lib.Seq.{take-add, drop-cons, take-append-seam, take-take, getD-drop}
-use Rattle.fcs.specs.CheckSequence.{Sound, fcs, good}
+use Rattle.fcs.specs.CheckSequence.{Sound, register, fcs, good}
 use Rattle.fcs.proofs.Laws.{fcs-length, good-frame}
 use Rattle.cobs.specs.CodeBlocks.{frame, withPhantom, flag, meaning}
 use Rattle.cobs.specs.declared.Choice.{Choice}
@@ -18,11 +18,11 @@ use Rattle.cobs.proofs.Tests.{branch, decide}
 use Rattle.cobs.proofs.Table.{Row, plain-row, row-read, numbers}
 use Rattle.cobs.proofs.Chosen.{Stands}
 use Rattle.cobs.proofs.Frame.{zeros-from}
-use Rattle.link.specs.Agreed.{Agreed, leastPacket, leastFrame, mostDecoded}
+use Rattle.link.specs.Agreed.{Settings, Agreed, agreed, leastPacket, leastFrame, mostDecoded}
 use Rattle.link.specs.Answers.{held, packet, refused}
-use Rattle.link.specs.Receiver.{Fragment, nothingHeld, holds, LastBlock, noBlock, blockD0, otherBlock, Receiver, Working, ReceiverEnd, withDue, step2BeginBlock, isNoBlock, isD0, write, step3Write, step3Decode, step3Data, lastBlock, step2ByMeaning, step2Code, step1ResumeHeld, step1D1, step1FirstOctet, steps1To4, isHeld, step5End, step5Hold, step5WithoutPhantom, step5Flag, atFlag, areaOf, work, putBack, flagged, receive}
+use Rattle.link.specs.Receiver.{Fragment, nothingHeld, holds, LastBlock, noBlock, blockD0, otherBlock, Receiver, Working, ReceiverEnd, withDue, step2BeginBlock, isNoBlock, isD0, write, step3Write, step3Decode, step3Data, lastBlock, step2ByMeaning, step2Code, letGo, step1Resume, step1ResumeHeld, step1D1, step1FirstOctet, steps1To4, isHeld, step5End, step5Hold, step5WithoutPhantom, step5Flag, atFlag, areaOf, work, aside, putBack, flagged, receive}
 use Rattle.link.specs.Runs.{packetIn}
-use Rattle.link.proofs.Tests.{if-so, if-not, true-false}
+use Rattle.link.proofs.Tests.{if-so, if-not, true-false, not-not}
 use Rattle.link.proofs.Write.{length-write, take-write}
 use Rattle.link.proofs.ReceiverBounds.{Bounds, by-end, Fit, Ready, receive-flag, first-octet, steps-data}
 
@@ -41,8 +41,9 @@ pub record Follows (d : List ℕ) (pos n z : ℕ) (w : Working) : Type 0 where
   pub zeros·is : w .state .zeros ≡ z
   pub ahead : Ahead (w .state .last) (n + z) (length d - pos)
 
--- what is held, whose turn it is and whether the frame is resumed stay
+-- the settings, what is held, whose turn it is and whether the frame is resumed stay
 pub record Keeps (r r′ : Receiver) : Type 0 where
+  pub settings·is : r′ .settings ≡ r .settings
   pub held·is : r′ .held ≡ r .held
   pub resumed·is : r′ .resumed ≡ r .resumed
   pub turn·is : r′ .turn ≡ r .turn
@@ -60,9 +61,10 @@ pub record BlockAt (d : List ℕ) (pos n z : ℕ) : Type 0 where
 
 module _ (g : Agreed) where
   -- a code where no data is left, else data
-  pub steps-code : (w : Working) (x : ℕ) → w .state .refusal ≡ 0 → w .state .left ≡ 0 → (x ≡ 0xD1 → ⊥) → (x ≡ 0xFF → ⊥) → steps1To4 g w x ≡ step2Code g w x
+  pub steps-code : (o : List ℕ) (w : Working) (x : ℕ) → w .state .refusal ≡ 0 → w .state .left ≡ 0 → (x ≡ 0xD1 → ⊥) → (x ≡ 0xFF → ⊥)
+      → steps1To4 g o w x ≡ step2Code g w x
   unfolding steps1To4 step1FirstOctet
-  steps-code w x clean none·left h k =
+  steps-code o w x clean none·left h k =
       if-not _ _ _ (ap not (eq-eqb (w .state .refusal) 0 clean))
       ∙ decide (not (w .state .framed))
       (λ e. if-so _ _ _ e ∙ (if-not _ _ _ (ne-eqb x 0xFF k) ∙ if-not _ _ _ (ne-eqb x 0xD1 h)))
@@ -88,27 +90,27 @@ module _ (g : Agreed) (d : List ℕ) (depth : length d ≤ mostDecoded g) where
 
   -- ---- a code
 
-  module _ (pos : ℕ) (w : Working) (f : Fit g w) (fo : Follows d pos 0 0 w) where
-    pub code-opens : (c n z : ℕ) → Row (g .zxe) c n z → (n ≡ 0 → ⊥) → Ahead (lastBlock c) (n + z) (length d - pos) → Moved d pos n z w (steps1To4 g w c)
+  module _ (pos : ℕ) (o : List ℕ) (w : Working) (f : Fit g w) (fo : Follows d pos 0 0 w) where
+    pub code-opens : (c n z : ℕ) → Row (g .zxe) c n z → (n ≡ 0 → ⊥) → Ahead (lastBlock c) (n + z) (length d - pos) → Moved d pos n z w (steps1To4 g o w c)
     unfolding step2ByMeaning
     code-opens c n z row h ahd =
         let v = numbers row in
-        let eq : steps1To4 g w c ≡ record { state = step2BeginBlock (lastBlock c) n z (w .state); area = w .area } =
-        steps-code g w c (fo .clean) (fo .left·is) (v .code-used) (λ q. omega (arith, v .code-below))
+        let eq : steps1To4 g o w c ≡ record { state = step2BeginBlock (lastBlock c) n z (w .state); area = w .area } =
+        steps-code g o w c (fo .clean) (fo .left·is) (v .code-used) (λ q. omega (arith, v .code-below))
         ∙ (code-is g w c n z (row-read row) ∙ if-not _ _ _ (ne-eqb n 0 h)) in
         rw eq
         (record {
           follows = record { clean = fo .clean; count = fo .count; same = fo .same; left·is = refl; zeros·is = refl; ahead = ahd };
-          keeps = record { held·is = refl; resumed·is = refl; turn·is = refl };
+          keeps = record { settings·is = refl; held·is = refl; resumed·is = refl; turn·is = refl };
         })
 
     -- 02, before a cut
-    pub code-two : Moved d pos 1 1 w (steps1To4 g w 0x02)
+    pub code-two : Moved d pos 1 1 w (steps1To4 g o w 0x02)
     code-two = code-opens 0x02 1 1 (plain-row 1 (omega arith)) (λ q. omega arith) tt
 
     -- a block without data: its zeros are decoded with the code
     pub code-zeros : (c n z : ℕ) → Row (g .zxe) c n z → n ≡ 0 → pos + z ≤ length d → ((i : ℕ) → i < z → getD d (pos + i) 0 ≡ 0)
-        → Moved d (pos + z) 0 0 w (steps1To4 g w c)
+        → Moved d (pos + z) 0 0 w (steps1To4 g o w c)
     unfolding step2ByMeaning
     code-zeros c n z row h fits zeros =
         let v = numbers row in
@@ -116,8 +118,8 @@ module _ (g : Agreed) (d : List ℕ) (depth : length d ≤ mostDecoded g) where
         let xs : List ℕ = replicate z 0 in
         let size : length xs ≡ z = length-replicate z 0 in
         let next : take (length xs) (drop pos d) ≡ xs = rw size (zeros-from d pos z fits zeros) in
-        let eq : steps1To4 g w c ≡ step3Write xs w₁ =
-        steps-code g w c (fo .clean) (fo .left·is) (v .code-used) (λ q. omega (arith, v .code-below))
+        let eq : steps1To4 g o w c ≡ step3Write xs w₁ =
+        steps-code g o w c (fo .clean) (fo .left·is) (v .code-used) (λ q. omega (arith, v .code-below))
         ∙ (code-is g w c n z (row-read row)
         ∙ (if-so _ _ _ (eq-eqb n 0 h) ∙ decodes pos xs w₁ (f .long) (fo .count) (fo .same) (omega arith) next)) in
         rw eq
@@ -132,18 +134,18 @@ module _ (g : Agreed) (d : List ℕ) (depth : length d ≤ mostDecoded g) where
                 ahead =
                     branch (λ b. Ahead b 0 (length d - (pos + z))) (eqb c 0xD0) (λ e. absurd (omega (arith, v .covers, v .full-zeros (eqb-true c 0xD0 e)))) (λ _. tt);
               };
-          keeps = record { held·is = refl; resumed·is = refl; turn·is = refl };
+          keeps = record { settings·is = refl; held·is = refl; resumed·is = refl; turn·is = refl };
         })
 
     module _ (c : Choice) (ch : Stands (g .zxe) (drop pos d) c) where
-      pub code-some : (c .nonzeros ≡ 0 → ⊥) → Moved d pos (c .nonzeros) (c .zeros) w (steps1To4 g w (c .code))
+      pub code-some : (c .nonzeros ≡ 0 → ⊥) → Moved d pos (c .nonzeros) (c .zeros) w (steps1To4 g o w (c .code))
       code-some h =
           code-opens (c .code) (c .nonzeros) (c .zeros) (ch .row) h
           (branch (λ b. Ahead b (c .nonzeros + c .zeros) (length d - pos)) (eqb (c .code) 0xD0)
           (λ e. omega (arith, numbers (ch .row) .full-zeros (eqb-true (c .code) 0xD0 e), ch .more, length-drop pos d))
           (λ _. tt))
 
-      pub code-zero : c .nonzeros ≡ 0 → pos ≤ length d → Moved d (pos + c .zeros) 0 0 w (steps1To4 g w (c .code))
+      pub code-zero : c .nonzeros ≡ 0 → pos ≤ length d → Moved d (pos + c .zeros) 0 0 w (steps1To4 g o w (c .code))
       code-zero h within =
           code-zeros (c .code) (c .nonzeros) (c .zeros) (ch .row) h (omega (arith, ch .inside, length-drop pos d))
           (λ i k. sym (getD-drop pos d i 0) ∙ ch .zero i (omega arith) (omega arith))
@@ -155,7 +157,7 @@ ahead-on noBlock n m k l h f a = absurd (omega arith)
 ahead-on blockD0 n m k l h f a = f a
 ahead-on otherBlock n m k l h f a = tt
 
-module _ (g : Agreed) (d : List ℕ) (depth : length d ≤ mostDecoded g) (pos : ℕ) (w : Working) (f : Fit g w) where
+module _ (g : Agreed) (d : List ℕ) (depth : length d ≤ mostDecoded g) (pos : ℕ) (o : List ℕ) (w : Working) (f : Fit g w) where
   module _ (n z : ℕ) (fo : Follows d pos n z w) (more : 0 < n) (fits : pos + (n + z) ≤ length d) where
     abbrev x : ℕ
     x = getD d pos 0
@@ -164,18 +166,18 @@ module _ (g : Agreed) (d : List ℕ) (depth : length d ≤ mostDecoded g) (pos :
     one = rw (drop-cons d pos 0 (omega arith))
 
     -- it is not refused, and stands in the area
-    data-is : steps1To4 g w x ≡ cond (eqb (w .state .left) 1)
+    data-is : steps1To4 g o w x ≡ cond (eqb (w .state .left) 1)
         (step3Decode g (replicate (w .state .zeros) 0) (step3Write (x ∷ []) (record { state = withDue 0 0 (w .state); area = w .area })))
         (step3Write (x ∷ []) (record { state = withDue (w .state .left - 1) (w .state .zeros) (w .state); area = w .area }))
     unfolding step3Data
     data-is =
-        steps-data g w x (f .bounds) (fo .clean) (omega (arith, fo .left·is))
+        steps-data g o w x (f .bounds) (fo .clean) (omega (arith, fo .left·is))
         ∙ if-not _ _ _ (le-ltb (mostDecoded g) (w .state .decoded + 1) (omega (arith, fo .count)))
 
     stored : (r : Receiver) → r .decoded ≡ pos → take (pos + 1) (step3Write (x ∷ []) (record { state = r; area = w .area }) .area) ≡ take (pos + 1) d
     stored r e = write-same g d depth pos (x ∷ []) (record { state = r; area = w .area }) (f .long) e (fo .same) (omega arith) one
 
-    pub data-more : (n ≡ 1 → ⊥) → Moved d (pos + 1) (n - 1) z w (steps1To4 g w x)
+    pub data-more : (n ≡ 1 → ⊥) → Moved d (pos + 1) (n - 1) z w (steps1To4 g o w x)
     data-more h =
         let r = w .state in
         rw (data-is ∙ if-not _ _ _ (ne-eqb (r .left) 1 (λ q. h (sym (fo .left·is) ∙ q))))
@@ -189,11 +191,11 @@ module _ (g : Agreed) (d : List ℕ) (depth : length d ≤ mostDecoded g) (pos :
                 zeros·is = fo .zeros·is;
                 ahead = ahead-on (r .last) (n + z) (length d - pos) (n - 1 + z) (length d - (pos + 1)) (omega arith) (λ k. omega arith) (fo .ahead);
               };
-          keeps = record { held·is = refl; resumed·is = refl; turn·is = refl };
+          keeps = record { settings·is = refl; held·is = refl; resumed·is = refl; turn·is = refl };
         })
 
     -- with the last, the zeros of the block stand behind it
-    pub data-last : n ≡ 1 → ((i : ℕ) → i < z → getD d (pos + 1 + i) 0 ≡ 0) → Moved d (pos + (1 + z)) 0 0 w (steps1To4 g w x)
+    pub data-last : n ≡ 1 → ((i : ℕ) → i < z → getD d (pos + 1 + i) 0 ≡ 0) → Moved d (pos + (1 + z)) 0 0 w (steps1To4 g o w x)
     data-last h all =
         let r = w .state in
         let w₁ : Working = step3Write (x ∷ []) (record { state = withDue 0 0 r; area = w .area }) in
@@ -218,7 +220,7 @@ module _ (g : Agreed) (d : List ℕ) (depth : length d ≤ mostDecoded g) (pos :
                 zeros·is = refl;
                 ahead = ahead-on (r .last) (n + z) (length d - pos) 0 (length d - (pos + (1 + z))) (omega arith) (λ k. omega arith) (fo .ahead);
               };
-          keeps = record { held·is = refl; resumed·is = refl; turn·is = refl };
+          keeps = record { settings·is = refl; held·is = refl; resumed·is = refl; turn·is = refl };
         })
 
 -- ---- the work area put back
@@ -248,18 +250,23 @@ follows-back d pos n z e w turn fo =
 
 -- ---- what is held
 
--- pos octets of d are held
+-- pos octets of d are held, with their register
 pub record Holding (d : List ℕ) (pos : ℕ) (e : ReceiverEnd) : Type 0 where
   pub plain : e .state .resumed ≡ false
-  pub held·is : e .state .held ≡ holds pos
-  pub same : take pos (areaOf (not (e .state .turn)) e) ≡ take pos d
+  pub held·is : e .state .held ≡ holds pos (register (agreed (e .state .settings) .check) (take pos d))
+  pub same : take pos (aside e) ≡ take pos d
+
+-- so in another state with these settings
+holds-on : (d : List ℕ) (pos : ℕ) (s t : Settings) → t ≡ s
+    → holds pos (register (agreed s .check) (take pos d)) ≡ holds pos (register (agreed t .check) (take pos d))
+holds-on d pos s t e = ap (λ (u : Settings). holds pos (register (agreed u .check) (take pos d))) (sym e)
 
 pub keeps-holding : (d : List ℕ) (pos : ℕ) (e : ReceiverEnd) (w : Working) → Keeps (e .state) (w .state) → Holding d pos e → Holding d pos (putBack e w)
 keeps-holding d pos e w k h =
     let b = e .state .turn in
     record {
       plain = k .resumed·is ∙ h .plain;
-      held·is = k .held·is ∙ h .held·is;
+      held·is = k .held·is ∙ (h .held·is ∙ holds-on d pos (e .state .settings) (w .state .settings) (k .settings·is));
       same =
           ap (λ (c : Bool). take pos (cond (not c) (cond b (w .area) (e .second)) (cond b (e .first) (w .area)))) (k .turn·is)
           ∙ (ap (take pos) (aside-back b (e .first) (e .second) (w .area)) ∙ h .same);
@@ -300,7 +307,7 @@ module _ (g : Agreed) (e : ReceiverEnd) (z : Ready g e) where
   step5-clean : r .refusal ≡ 0 → isNoBlock (r .last) ≡ false
       → receive e flag
       ≡ flagged e
-      (cond (ltb 0 (r .left)) (cond (g .pre) (step5Hold r) (step5End (refused 11) r))
+      (cond (ltb 0 (r .left)) (cond (g .pre) (step5Hold g r (work e .area)) (step5End (refused 11) r))
       (cond (isD0 (r .last)) (step5End (refused 12) r) (step5WithoutPhantom g r (work e .area) (r .decoded - 1))))
   unfolding atFlag step5Flag
   step5-clean clean h =
@@ -351,7 +358,7 @@ module _ (g : Agreed) (e : ReceiverEnd) (z : Ready g e) where
 
   -- a flag inside a block leaves the fragment held
   module _ (d : List ℕ) (pos n y : ℕ) (fo : Follows d pos n y (work e)) (more : 0 < n) (pre : g .pre ≡ true) where
-    breaks-off : receive e flag ≡ flagged e (step5Hold r)
+    breaks-off : receive e flag ≡ flagged e (step5Hold g r (work e .area))
     breaks-off =
         step5-clean (fo .clean) (block-open (r .last) (n + y) (length d - pos) (omega arith) (fo .ahead))
         ∙ ap (flagged e) (if-so _ _ _ (lt-ltb 0 (r .left) (omega (arith, fo .left·is))) ∙ if-so _ _ _ pre)
@@ -360,11 +367,10 @@ module _ (g : Agreed) (e : ReceiverEnd) (z : Ready g e) where
     breaks-held = rw breaks-off (ap (λ (k : ℕ). held k (not (r .resumed) && isHeld (r .held))) (fo .count))
 
     pub breaks-holding : Holding d pos (receive e flag .after)
-    breaks-holding = rw breaks-off (record { plain = refl; held·is = ap holds (fo .count); same = not-not (r .turn) (fo .same) })
+    breaks-holding = rw breaks-off (record { plain = refl; held·is = carries; same = subst (λ (b : Bool). take pos (areaOf b e) ≡ take pos d) (sym (not-not (r .turn))) (fo .same) })
       where
-        not-not : (b : Bool) → take pos (areaOf b e) ≡ take pos d → take pos (areaOf (not (not b)) e) ≡ take pos d
-        not-not true q = q
-        not-not false q = q
+        carries : holds (r .decoded) (register (g .check) (take (r .decoded) (work e .area))) ≡ holds pos (register (agreed (r .settings) .check) (take pos d))
+        carries = rw (fo .count, fo .same, z .agrees)
 
   -- ---- the first octet of a frame
 
@@ -382,17 +388,21 @@ module _ (g : Agreed) (e : ReceiverEnd) (z : Ready g e) where
       }
 
   -- D1 resumes what is held
-  resume-is : (pos : ℕ) → r .held ≡ holds pos → g .pre ≡ true → step1D1 g r ≡ step1ResumeHeld (holds pos) r
-  unfolding step1D1
-  resume-is pos h pre = if-so _ _ _ pre ∙ ap (λ (k : Fragment). step1ResumeHeld k r) h
+  pub resume-is : (pos k : ℕ) → r .held ≡ holds pos k → g .pre ≡ true → register (g .check) (take pos (aside e)) ≡ k
+      → step1D1 g (aside e) r ≡ step1Resume pos (letGo r)
+  unfolding step1D1 step1ResumeHeld
+  resume-is pos k h pre same =
+      if-so _ _ _ pre ∙ (ap (λ (f : Fragment). step1ResumeHeld g (aside e) f r) h ∙ if-so _ _ _ (eq-eqb _ k same))
 
   pub resumes : (d : List ℕ) (pos : ℕ) → Holding d pos e → r .framed ≡ false → g .pre ≡ true → pos < length d
-      → Follows d pos 0 0 (work (putBack e (steps1To4 g (work e) 0xD1)))
-  unfolding step1FirstOctet step1ResumeHeld
+      → Follows d pos 0 0 (work (putBack e (steps1To4 g (aside e) (work e) 0xD1)))
+  unfolding step1FirstOctet
   resumes d pos h out pre more =
-      let up : Working = record { state = step1ResumeHeld (holds pos) r; area = work e .area } in
-      let eq : steps1To4 g (work e) 0xD1 ≡ up =
-      first-octet g (work e) 0xD1 (z .bounds) out ∙ ap (λ (s : Receiver). record { state = s; area = work e .area }) (resume-is pos (h .held·is) pre) in
+      let up : Working = record { state = step1Resume pos (letGo r); area = work e .area } in
+      let same : register (g .check) (take pos (aside e)) ≡ register (agreed (r .settings) .check) (take pos d) = rw (h .same, z .agrees) in
+      let eq : steps1To4 g (aside e) (work e) 0xD1 ≡ up =
+      first-octet g (aside e) (work e) 0xD1 (z .bounds) out
+      ∙ ap (λ (s : Receiver). record { state = s; area = work e .area }) (resume-is pos _ (h .held·is) pre same) in
       subst (λ (w : Working). Follows d pos 0 0 (work (putBack e w))) (sym eq)
       (record {
         clean = refl;

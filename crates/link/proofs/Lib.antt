@@ -26,5 +26,6 @@ pub mod EachCall
 pub mod WriteOn
 pub mod AreasAside
 pub mod Restart
+pub mod Changed
 pub mod Marked
 pub mod Examples

@@ -13,7 +13,7 @@ use Rattle.cobs.proofs.Table.{numbers}
 use Rattle.link.specs.Agreed.{Settings, Agreed, largestFrame, mostDecoded}
 use Rattle.link.specs.Answers.{Answer, held, refused}
 use Rattle.link.specs.Sender.{Lane, low, high, OnLine, noLane, sending, LaneState, Out, closes, breaksOff, sends, sendsNothing, refuses, Step, laneD, loaded, next, putFrame}
-use Rattle.link.specs.Receiver.{Fragment, nothingHeld, Working, ReceiverEnd, Receive, isHeld, work, putBack, steps1To4, receive}
+use Rattle.link.specs.Receiver.{Fragment, nothingHeld, Working, ReceiverEnd, Receive, isHeld, work, aside, putBack, steps1To4, receive}
 use Rattle.link.specs.Runs.{Lanes, Station, lanePacket, afterLoad, afterStep, afterNext, Written, endsItsFrame, asideAfter, replacesAfter, Arrives, ExpectedReport}
 use Rattle.link.proofs.Tests.{true-false, false-true}
 use Rattle.link.proofs.Way.{Advance, last, more, covers, opens, Way, ends, cuts, warns, goes, sender, Turn, cut·due, idles, resumes·low, begins·high, begins·low, high·on, low·on, by-next}
@@ -26,14 +26,14 @@ use Rattle.link.proofs.Sound.{station, StockOf, Stock, Waiting, Sound, 
 -- ---- an octet that is sent, as the receiver takes it
 
 module _ (g : Agreed) (e : ReceiverEnd) (z : Ready g e) (x : ℕ) where
-  pub passes : (x ≡ 0 → ⊥) → receive e (toLine x) .after ≡ putBack e (steps1To4 g (work e) x)
+  pub passes : (x ≡ 0 → ⊥) → receive e (toLine x) .after ≡ putBack e (steps1To4 g (aside e) (work e) x)
   passes h =
       ap (λ (k : Receive). k .after) (receive-other g e z (toLine x) (no-flag x))
-      ∙ ap (λ (y : ℕ). putBack e (steps1To4 g (work e) y)) (turned-back x h)
+      ∙ ap (λ (y : ℕ). putBack e (steps1To4 g (aside e) (work e) y)) (turned-back x h)
 
-  passes-plain : (x ≡ flag → ⊥) → (x ≡ 0 → ⊥) → receive e x .after ≡ putBack e (steps1To4 g (work e) x)
+  passes-plain : (x ≡ flag → ⊥) → (x ≡ 0 → ⊥) → receive e x .after ≡ putBack e (steps1To4 g (aside e) (work e) x)
   passes-plain f h =
-      ap (λ (k : Receive). k .after) (receive-other g e z x f) ∙ ap (λ (y : ℕ). putBack e (steps1To4 g (work e) y)) (from-line x h)
+      ap (λ (k : Receive). k .after) (receive-other g e z x f) ∙ ap (λ (y : ℕ). putBack e (steps1To4 g (aside e) (work e) y)) (from-line x h)
 
 pub follows-at : (d : List ℕ) (w : Working) {pos pos′ n n′ z z′ : ℕ} → pos ≡ pos′ → n ≡ n′ → z ≡ z′ → Follows d pos n z w → Follows d pos′ n′ z′ w
 follows-at d w e f g fo = subst₃ (λ i j k. Follows d i j k w) e f g fo
@@ -88,28 +88,28 @@ module _ (g : Agreed) (q : LaneState) (a : List ℕ) (n z : ℕ) (fits : q .leng
   heard x pos n′ z′ h (last k) =
       rw (passes g e r x (first-nonzero (omega arith)))
       (went d _ 0 0 e _
-      (data-last g d depth (q .position) (work e) (fit-work g e r) n z fo (omega arith) (omega (arith, v .room, long)) k
+      (data-last g d depth (q .position) (aside e) (work e) (fit-work g e r) n z fo (omega arith) (omega (arith, v .room, long)) k
       (λ i l. ap (λ (j : ℕ). getD d j 0) (omega arith) ∙ b .zero (1 + i) (omega arith) (omega arith))))
   heard x pos n′ z′ h (more k l) =
       rw (passes g e r x (first-nonzero k))
-      (went d _ _ z e _ (data-more g d depth (q .position) (work e) (fit-work g e r) n z fo k (omega (arith, v .room, long)) l))
+      (went d _ _ z e _ (data-more g d depth (q .position) (aside e) (work e) (fit-work g e r) n z fo k (omega (arith, v .room, long)) l))
   heard x pos n′ z′ h (covers k l) =
       let ch = bounds.stands g q a fits h in
       let c = choice (g .zxe) (drop (q .position) d) in
-      let m = code-zero g d depth (q .position) (work e) (fit-work g e r) (none-left k) c ch l (omega (arith, long)) in
+      let m = code-zero g d depth (q .position) (aside e) (work e) (fit-work g e r) (none-left k) c ch l (omega (arith, long)) in
       rw (passes g e r x (λ s. omega (arith, numbers (ch .row) .code-some)))
       (went d _ n z e _
       (record { follows = follows-at d _ refl (sym k) (sym (v .even k)) (m .follows); keeps = m .keeps }))
   heard x pos n′ z′ h (opens k l) =
       let ch = bounds.stands g q a fits h in
       rw (passes g e r x (λ s. omega (arith, numbers (ch .row) .code-some)))
-      (went d _ _ _ e _ (code-some g d depth (q .position) (work e) (fit-work g e r) (none-left k) _ ch l))
+      (went d _ _ _ e _ (code-some g d depth (q .position) (aside e) (work e) (fit-work g e r) (none-left k) _ ch l))
 
   -- 02 before a cut
   pub heard-two : n ≡ 0 → Went d (q .position) 1 1 e (receive e 0x02 .after)
   heard-two h =
       rw (passes-plain g e r 0x02 (λ s. omega arith) (λ s. omega arith))
-      (went d (q .position) 1 1 e _ (code-two g d depth (q .position) (work e) (fit-work g e r) (none-left h)))
+      (went d (q .position) 1 1 e _ (code-two g d depth (q .position) (aside e) (work e) (fit-work g e r) (none-left h)))
 
 -- a packet that was under way at the chosen flag: the receiver is in step with its blocks
 module _ (g : Agreed) (q : LaneState) (a : List ℕ) (n z : ℕ) (fits : q .length ≤ length a) (b : BlockAt (laneD q a) (q .position) n z)
@@ -121,15 +121,15 @@ module _ (g : Agreed) (q : LaneState) (a : List ℕ) (n z : ℕ) (fits : q .leng
       → InStep n′ (receive e (toLine x) .after .state)
   in-step x pos n′ z′ h (last k) =
       rw (passes g e r x (nonzero (omega arith)))
-      (in-step-at (n - 1) 0 _ (omega arith) (data-in-step g (work e) n i x (omega arith)))
-  in-step x pos n′ z′ h (more k l) = rw (passes g e r x (nonzero k)) (data-in-step g (work e) n i x k)
+      (in-step-at (n - 1) 0 _ (omega arith) (data-in-step g (aside e) (work e) n i x (omega arith)))
+  in-step x pos n′ z′ h (more k l) = rw (passes g e r x (nonzero k)) (data-in-step g (aside e) (work e) n i x k)
   in-step x pos n′ z′ h (covers k l) =
       let ch = bounds.stands g q a fits h in
       rw (passes g e r x (λ s. omega (arith, numbers (ch .row) .code-some)))
-      (in-step-at _ n _ (l ∙ sym k) (code-in-step g (work e) n i x _ _ (ch .row) k))
+      (in-step-at _ n _ (l ∙ sym k) (code-in-step g (aside e) (work e) n i x _ _ (ch .row) k))
   in-step x pos n′ z′ h (opens k l) =
       let ch = bounds.stands g q a fits h in
-      rw (passes g e r x (λ s. omega (arith, numbers (ch .row) .code-some))) (code-in-step g (work e) n i x _ _ (ch .row) k)
+      rw (passes g e r x (λ s. omega (arith, numbers (ch .row) .code-some))) (code-in-step g (aside e) (work e) n i x _ _ (ch .row) k)
 
 -- ---- in step
 

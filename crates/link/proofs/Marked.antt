@@ -19,7 +19,7 @@ use Rattle.link.specs.Agreed.{Agreed, agreed, leastFrame, mostDecoded, S
 use Rattle.link.specs.Answers.{refused}
 use Rattle.link.specs.Sender.{putFrame, load, step4BreakOff, step5Data, step6Code, steps3To6, step2NoLane, steps1To6, next}
 use Rattle.link.specs.Sender as sender
-use Rattle.link.specs.Receiver.{Working, ReceiverEnd, Receive, Ended, isNoBlock, isD0, step3Decode, step3Data, step2ByMeaning, step2Code, step1ResumeHeld, step1D1, step1FirstOctet, steps1To4, step5WithoutPhantom, step5Flag, atFlag, work, putBack, flagged, receive}
+use Rattle.link.specs.Receiver.{Working, ReceiverEnd, Receive, Ended, isNoBlock, isD0, step3Decode, step3Data, step2ByMeaning, step2Code, step1ResumeHeld, step1D1, step1FirstOctet, steps1To4, step5WithoutPhantom, step5Flag, atFlag, work, aside, putBack, flagged, receive}
 use Rattle.link.specs.Receiver as receiver
 use Rattle.link.specs.Runs.{afterLoad, afterNext, run, written, receives, notQuiet, received, underWay, leftAside}
 use Rattle.link.specs.Demands.{freshReceiver}
@@ -64,8 +64,8 @@ module _ (g : Agreed) (zxe : g .zxe ≡ true) (n z : ℕ) (h : 3 ≤ z) (k : z �
   run-is =
       ap (λ (r : Receive). r .after) (receive-other g e (d .ready) (0xD0 + z) (λ q. omega arith))
       ∙ ap (putBack e)
-      (ap (steps1To4 g (work e)) (from-line (0xD0 + z) (λ q. omega arith))
-      ∙ (steps-code g (work e) (0xD0 + z) (d .clean) (d .left·0) (λ q. omega arith) (λ q. omega arith)
+      (ap (steps1To4 g (aside e) (work e)) (from-line (0xD0 + z) (λ q. omega arith))
+      ∙ (steps-code g (aside e) (work e) (0xD0 + z) (d .clean) (d .left·0) (λ q. omega arith) (λ q. omega arith)
       ∙ code-is g (work e) (0xD0 + z) 0 z (row-read (run-row z zxe h k))))
 
   size : length {A = ℕ} (replicate z 0) ≡ z

@@ -12,7 +12,7 @@ use Rattle.cobs.specs.CodeBlocks.{flag, fromLine}
 use Rattle.cobs.proofs.Tests.{decide}
 use Rattle.link.specs.Agreed.{Agreed, agreed, valid, mostDecoded}
 use Rattle.link.specs.Answers.{Answer, quiet, refused}
-use Rattle.link.specs.Receiver.{Working, ReceiverEnd, Receive, withDue, withDecoded, inBounds, work, putBack, receive}
+use Rattle.link.specs.Receiver.{Working, ReceiverEnd, Receive, withDue, withDecoded, inBounds, work, aside, putBack, receive}
 use Rattle.link.specs.ReceiverParts.{ReceiverReady}
 use Rattle.link.proofs.Tests.{not-below, none-short}
 use Rattle.link.proofs.Area.{stored}
@@ -74,7 +74,7 @@ decodes e x a n l room h =
     let w = work e in
     let y = fromLine x in
     let more : w .state .left ≡ 1 → ⊥ = λ k. omega arith in
-    let s = steps-data g w y (z .bounds) n (omega arith) ∙ inner-octet g w y room more in
+    let s = steps-data g (aside e) w y (z .bounds) n (omega arith) ∙ inner-octet g w y room more in
     let t = stored (w .area) (e .state .decoded) y (omega (arith, area-long g e z (e .state .turn))) in
     receive-other g e z x h
     ∙ ap (λ (v : Working). record { report = quiet; after = putBack e v }) s

@@ -1,14 +1,16 @@
 -- The receiver by itself: on areas that are long enough no octet is refused, each leaves the state in bounds, all but flags are Quiet, and
 -- after a flag the receiver is out of a frame.
-use mathlib.Core.Path.{_≡_, refl, sym, ap, _∙_}
+use mathlib.Core.Path.{_≡_, refl, sym, ap, subst, _∙_}
 use mathlib.Core.Bool.{Bool, true, false, cond, not, _&&_, _||_}
 use mathlib.Core.List.{List, [], _∷_}
-use Prim.Native.Nat.{ℕ, _+_, _-_, _≤_, _<_}
+use mathlib.Core.Logic.{_⊎_, inl, inr, ⊎-elim}
+use Prim.Native.Nat.{ℕ, _+_, _-_, _^_, _≤_, _<_}
 use native.Mathlib.Omega.{arith}
 use borrow.Author.Tests.{ltb-true, ltb-false, leb-true, eqb-true, eqb-false, lt-ltb, le-ltb, le-leb, eq-eqb, ne-eqb, not-true, not-false}
 use lib.Dec.{leb, ltb, eqb}
 use lib.ListN.{length, take, replicate, length-replicate}
-use Rattle.fcs.specs.CheckSequence.{good}
+use Rattle.fcs.specs.CheckSequence.{Sound, width, ones, register, good}
+use Rattle.fcs.proofs.Laws.{register-below}
 use Rattle.cobs.specs.CodeBlocks.{flag, fromLine, meaning}
 use Rattle.cobs.specs.declared.Meaning.{Meaning}
 use Rattle.cobs.specs.declared.Meaning.the-variants.{InTable, NotAgreed, NoCode}
@@ -16,7 +18,8 @@ use Rattle.cobs.proofs.Tests.{branch, decide, and-left, and-right}
 use Rattle.cobs.proofs.Table.{read-row, numbers}
 use Rattle.link.specs.Agreed.{Settings, Agreed, agreed, valid, leastFrame, mostDecoded}
 use Rattle.link.specs.Answers.{Answer, done, octet, idle, quiet, packet, held, refused}
-use Rattle.link.specs.Receiver.{Fragment, nothingHeld, holds, LastBlock, noBlock, blockD0, otherBlock, Receiver, Working, ReceiverEnd, Receive, Ended, outOfFrame, withDue, step2BeginBlock, isNoBlock, isD0, letGo, heldOk, freshOk, lastBlockOk, inBounds, step4Remember, step4Refuse, step3Write, step3Decode, step3Data, lastBlock, step2ByMeaning, step2Code, step1ResumeHeld, step1D1, step1FirstOctet, steps1To4, frameOver, step5End, step5Hold, step5WithoutPhantom, step5Flag, atFlag, areaOf, work, putBack, flagged, receive}
+use Rattle.link.specs.Receiver.{Fragment, nothingHeld, holds, LastBlock, noBlock, blockD0, otherBlock, Receiver, Working, ReceiverEnd, Receive, Ended, outOfFrame, withDue, step2BeginBlock, isNoBlock, isD0, letGo, heldOk, freshOk, lastBlockOk, refusalOk, inBounds, step4Remember, step4Refuse, step3Write, step3Decode, step3Data, lastBlock, step2ByMeaning, step2Code, step1ResumeHeld, step1D1, step1FirstOctet, steps1To4, frameOver, step5End, step5Hold, step5WithoutPhantom, step5Flag, atFlag, areaOf, work, aside, putBack, flagged, receive}
+use Rattle.link.proofs.Agreed.{sound-check}
 use Rattle.link.proofs.Tests.{if-so, if-not, ands, true-false, false-true, or-cases}
 use Rattle.link.proofs.Write.{length-write}
 
@@ -24,7 +27,7 @@ use Rattle.link.proofs.Write.{length-write}
 
 abbrev pub HeldOk : Agreed → Fragment → Type 0
 HeldOk g nothingHeld = Unit {0}
-HeldOk g (holds n) = n ≤ mostDecoded g
+HeldOk g (holds n k) = (n ≤ mostDecoded g) × (k ≤ ones (g .check))
 
 -- out of a frame
 pub record FreshOk (r : Receiver) : Type 0 where
@@ -41,28 +44,33 @@ LastBlockOk noBlock resumed left decoded = resumed ≡ true
 LastBlockOk blockD0 resumed left decoded = Unit {0}
 LastBlockOk otherBlock resumed left decoded = 0 < left + decoded
 
+-- a refusal that may be remembered
+abbrev pub Remembered : ℕ → Type 0
+Remembered n = (5 ≤ n) × ((n ≤ 10) ⊎ (n ≡ 21))
+
 pub record Bounds (g : Agreed) (r : Receiver) : Type 0 where
   pub deep : r .decoded ≤ mostDecoded g
   pub holds : HeldOk g (r .held)
   pub few : r .left ≤ 207
   pub two : r .zeros ≤ 2
-  pub refusals : (r .refusal ≡ 0 → ⊥) → (5 ≤ r .refusal) × (r .refusal ≤ 10)
+  pub refusals : (r .refusal ≡ 0 → ⊥) → Remembered (r .refusal)
   pub restart : r .refusal ≡ 5 → r .held ≡ nothingHeld
   pub out : r .framed ≡ false → FreshOk r
   pub begun : r .framed ≡ true → r .refusal ≡ 0 → LastBlockOk (r .last) (r .resumed) (r .left) (r .decoded)
 
-some-held : {Q : Type 0} (n : ℕ) → holds n ≡ nothingHeld → Q
-some-held n e = absurd (let z : _≡_ {A = ℕ} 0 1 = cc in omega arith)
+some-held : {Q : Type 0} (n k : ℕ) → holds n k ≡ nothingHeld → Q
+some-held n k e = absurd (let z : _≡_ {A = ℕ} 0 1 = cc in omega arith)
 
 -- the facts make the test true
 held-ok : (g : Agreed) (m : ℕ) (h : Fragment) → HeldOk g h → (m ≡ 5 → h ≡ nothingHeld) → heldOk g m h ≡ true
 held-ok g m nothingHeld k f = refl
-held-ok g m (holds n) k f = rw (ne-eqb m 5 (λ e. some-held n (f e)), le-leb n (mostDecoded g) k)
+held-ok g m (holds n i) k f = rw (ne-eqb m 5 (λ e. some-held n i (f e)), le-leb n (mostDecoded g) (k .0), le-leb i (ones (g .check)) (k .1))
 
-refusal-ok : (n : ℕ) → ((n ≡ 0 → ⊥) → (5 ≤ n) × (n ≤ 10)) → (eqb n 0 || leb 5 n && leb n 10) ≡ true
-refusal-ok n h =
-    decide (eqb n 0) (λ e. rw e)
-    (λ e. let k = h (eqb-false n 0 e) in rw (e, le-leb 5 n (k .0), le-leb n 10 (k .1)))
+remembered-ok : (n : ℕ) → Remembered n → (leb 5 n && leb n 10 || eqb n 21) ≡ true
+remembered-ok n k = ⊎-elim (λ l. rw (le-leb 5 n (k .0), le-leb n 10 l)) (λ e. rw e) (k .1)
+
+refusal-ok : (n : ℕ) → ((n ≡ 0 → ⊥) → Remembered n) → refusalOk n ≡ true
+refusal-ok n h = decide (eqb n 0) (λ e. rw e) (λ e. rw e (remembered-ok n (h (eqb-false n 0 e))))
 
 block-ok : (b : LastBlock) (r : Receiver) → LastBlockOk b (r .resumed) (r .left) (r .decoded) → lastBlockOk b r ≡ true
 block-ok noBlock r h = h
@@ -89,13 +97,23 @@ in-bounds g r h =
     (λ e. fresh-ok r (h .out e)))
 
 -- and the test tells the facts
-ok-held : (g : Agreed) (m : ℕ) (h : Fragment) → heldOk g m h ≡ true → HeldOk g h
+pub ok-held : (g : Agreed) (m : ℕ) (h : Fragment) → heldOk g m h ≡ true → HeldOk g h
 ok-held g m nothingHeld e = tt
-ok-held g m (holds n) e = leb-true n (mostDecoded g) (and-right (not (eqb m 5)) (leb n (mostDecoded g)) e)
+ok-held g m (holds n k) e =
+    let few = not (eqb m 5) && leb n (mostDecoded g) in
+    let front = and-left few (leb k (ones (g .check))) e in
+    (leb-true n (mostDecoded g) (and-right (not (eqb m 5)) (leb n (mostDecoded g)) front), leb-true k (ones (g .check)) (and-right few (leb k (ones (g .check))) e))
 
 ok-restart : (g : Agreed) (m : ℕ) (h : Fragment) → heldOk g m h ≡ true → m ≡ 5 → h ≡ nothingHeld
 ok-restart g m nothingHeld e f = refl
-ok-restart g m (holds n) e f = false-true (rw f at e)
+ok-restart g m (holds n k) e f = false-true (rw f at e)
+
+ok-refusal : (n : ℕ) → refusalOk n ≡ true → (n ≡ 0 → ⊥) → Remembered n
+ok-refusal n e some =
+    or-cases (eqb n 0) _ e (λ k. absurd (some (eqb-true n 0 k)))
+    (λ k. or-cases (leb 5 n && leb n 10) (eqb n 21) k
+    (λ l. (leb-true 5 n (and-left (leb 5 n) (leb n 10) l), inl (leb-true n 10 (and-right (leb 5 n) (leb n 10) l))))
+    (λ l. (omega (arith, eqb-true n 21 l), inr (eqb-true n 21 l))))
 
 ok-block : (b : LastBlock) (r : Receiver) → lastBlockOk b r ≡ true → LastBlockOk b (r .resumed) (r .left) (r .decoded)
 ok-block noBlock r e = e
@@ -126,20 +144,15 @@ pub bounds : (g : Agreed) (r : Receiver) → inBounds g r ≡ true → Bounds g 
 unfolding inBounds
 bounds g r e =
     let n = r .refusal in
-    let known = eqb n 0 || leb 5 n && leb n 10 in
     let frame = cond (r .framed) (not (eqb n 0) || lastBlockOk (r .last) r) (freshOk r) in
-    let all = ands (leb (r .decoded) (mostDecoded g)) (heldOk g n (r .held)) (leb (r .left) 207) (leb (r .zeros) 2) known frame e in
+    let all = ands (leb (r .decoded) (mostDecoded g)) (heldOk g n (r .held)) (leb (r .left) 207) (leb (r .zeros) 2) (refusalOk n) frame e in
     let in·frame : frame ≡ true = all .5 in
     record {
       deep = leb-true (r .decoded) (mostDecoded g) (all .0);
       holds = ok-held g n (r .held) (all .1);
       few = leb-true (r .left) 207 (all .2);
       two = leb-true (r .zeros) 2 (all .3);
-      refusals =
-          λ some.
-          or-cases (eqb n 0) (leb 5 n && leb n 10) (all .4)
-          (λ k. absurd (some (eqb-true n 0 k)))
-          (λ k. (leb-true 5 n (and-left (leb 5 n) (leb n 10) k), leb-true n 10 (and-right (leb 5 n) (leb n 10) k)));
+      refusals = ok-refusal n (all .4);
       restart = ok-restart g n (r .held) (all .1);
       out = λ f. ok-fresh r (sym (if-not (r .framed) _ (freshOk r) f) ∙ in·frame);
       begun =
@@ -149,19 +162,24 @@ bounds g r e =
           (ok-block (r .last) r);
     }
 
+-- of these, the test of what is held
+pub ok-if-in-bounds : (g : Agreed) (r : Receiver) → inBounds g r ≡ true → heldOk g (r .refusal) (r .held) ≡ true
+ok-if-in-bounds g r e = let b = bounds g r e in held-ok g (r .refusal) (r .held) (b .holds) (b .restart)
+
 -- data left: the octet is a data octet
 in-frame : (g : Agreed) (r : Receiver) → Bounds g r → 0 < r .left → r .framed ≡ true
 in-frame g r b l = decide (r .framed) (λ f. f) (λ f. absurd (omega (arith, b .out f .left·0)))
 
-pub steps-data : (g : Agreed) (w : Working) (x : ℕ) → Bounds g (w .state) → w .state .refusal ≡ 0 → 0 < w .state .left
-    → steps1To4 g w x ≡ step3Data g w x
+pub steps-data : (g : Agreed) (a : List ℕ) (w : Working) (x : ℕ) → Bounds g (w .state) → w .state .refusal ≡ 0 → 0 < w .state .left
+    → steps1To4 g a w x ≡ step3Data g w x
 unfolding steps1To4
-steps-data g w x b n l = simp (eq-eqb _ _ n, in-frame g (w .state) b l, lt-ltb _ _ l)
+steps-data g a w x b n l = simp (eq-eqb _ _ n, in-frame g (w .state) b l, lt-ltb _ _ l)
 
 -- out of a frame: it is the first octet of one
-pub first-octet : (g : Agreed) (w : Working) (x : ℕ) → Bounds g (w .state) → w .state .framed ≡ false → steps1To4 g w x ≡ step1FirstOctet g w x
+pub first-octet : (g : Agreed) (a : List ℕ) (w : Working) (x : ℕ) → Bounds g (w .state) → w .state .framed ≡ false
+    → steps1To4 g a w x ≡ step1FirstOctet g a w x
 unfolding steps1To4
-first-octet g w x b f = simp (eq-eqb _ _ (b .out f .refusal·0), f)
+first-octet g a w x b f = simp (eq-eqb _ _ (b .out f .refusal·0), f)
 
 -- ---- a call that isn't refused
 
@@ -191,7 +209,7 @@ module _ (g : Agreed) (e : ReceiverEnd) (z : Ready g e) where
         in-bounds g (e .state) (z .bounds),
       )
 
-  pub receive-other : (x : ℕ) → (x ≡ flag → ⊥) → receive e x ≡ record { report = quiet; after = putBack e (steps1To4 g (work e) (fromLine x)) }
+  pub receive-other : (x : ℕ) → (x ≡ flag → ⊥) → receive e x ≡ record { report = quiet; after = putBack e (steps1To4 g (aside e) (work e) (fromLine x)) }
   unfolding receive
   receive-other x other·x =
       rw (
@@ -221,14 +239,14 @@ module _ (g : Agreed) (e : ReceiverEnd) (z : Ready g e) where
 
 -- ---- each part of the steps leaves the state in bounds and the work area as long as it was
 
-remember-in : (g : Agreed) (n : ℕ) (resumed : Bool) (r : Receiver) → 5 ≤ n → n ≤ 10 → (n ≡ 5 → r .held ≡ nothingHeld) → Bounds g r → Bounds g (step4Remember n resumed r)
-remember-in g n resumed r h k i b =
+remember-in : (g : Agreed) (n : ℕ) (resumed : Bool) (r : Receiver) → Remembered n → (n ≡ 5 → r .held ≡ nothingHeld) → Bounds g r → Bounds g (step4Remember n resumed r)
+remember-in g n resumed r h i b =
     record {
       deep = b .deep;
       holds = b .holds;
       few = omega arith;
       two = omega arith;
-      refusals = λ _. (h, k);
+      refusals = λ _. h;
       restart = i;
       out = λ e. true-false e;
       begun = λ _ e. absurd (omega arith);
@@ -238,7 +256,7 @@ refuse-in : (g : Agreed) (n : ℕ) (w : Working) → 5 < n → n ≤ 10 → Fit 
 refuse-in g n w h k f =
     record {
       agrees = f .agrees;
-      bounds = remember-in g n (w .state .resumed) (w .state) (omega arith) k (λ q. absurd (omega arith)) (f .bounds);
+      bounds = remember-in g n (w .state .resumed) (w .state) (omega arith, inl k) (λ q. absurd (omega arith)) (f .bounds);
       long = f .long;
     }
 
@@ -285,7 +303,7 @@ decode-in g xs w f =
             holds = f .holds;
             few = omega arith;
             two = omega arith;
-            refusals = λ _. (omega arith, omega arith);
+            refusals = λ _. (omega arith, inl (omega arith));
             restart = λ q. absurd (omega arith);
             out = λ k. true-false k;
             begun = λ _ k. absurd (omega arith);
@@ -388,40 +406,6 @@ code-in : (g : Agreed) (w : Working) (c : ℕ) → Fit g w → w .state .refusal
 unfolding step2Code
 code-in g w c f clean = meaning-in g w c (meaning (g .zxe) c) refl f clean
 
--- D1
-resume-held-in : (g : Agreed) (h : Fragment) (r : Receiver) → HeldOk g h → Bounds g r → Bounds g (step1ResumeHeld h r)
-unfolding step1ResumeHeld
-resume-held-in g nothingHeld r k b = remember-in g 8 true r (omega arith) (omega arith) (λ q. absurd (omega arith)) b
-resume-held-in g (holds n) r k b =
-    record {
-      deep = k;
-      holds = tt;
-      few = omega arith;
-      two = omega arith;
-      refusals = λ q. absurd (q refl);
-      restart = λ _. refl;
-      out = λ q. true-false q;
-      begun = λ _ _. refl;
-    }
-
-settings-up : (h : Fragment) (r : Receiver) → step1ResumeHeld h r .settings ≡ r .settings
-unfolding step1ResumeHeld
-settings-up nothingHeld r = refl
-settings-up (holds n) r = refl
-
-resume-in : (g : Agreed) (w : Working) → Fit g w → Fit g (record { state = step1D1 g (w .state); area = w .area })
-unfolding step1D1
-resume-in g w f =
-    branch (λ r. Fit g (record { state = r; area = w .area })) (g .pre)
-    (λ _.
-    record {
-      agrees = ap agreed (settings-up (w .state .held) (w .state)) ∙ f .agrees;
-      bounds = resume-held-in g (w .state .held) (w .state) (f .bounds .holds) (f .bounds);
-      long = f .long;
-    })
-    (λ _.
-    record { agrees = f .agrees; bounds = remember-in g 6 true (w .state) (omega arith) (omega arith) (λ q. absurd (omega arith)) (f .bounds); long = f .long })
-
 -- nothing held is in bounds, whatever was held
 let-go-in : (g : Agreed) (r : Receiver) → Bounds g r → Bounds g (letGo r)
 let-go-in g r b =
@@ -436,25 +420,62 @@ let-go-in g r b =
       begun = b .begun;
     }
 
-first-in : (g : Agreed) (w : Working) (x : ℕ) → Fit g w → w .state .refusal ≡ 0 → Fit g (step1FirstOctet g w x)
+-- D1
+resume-held-in : (g : Agreed) (a : List ℕ) (h : Fragment) (r : Receiver) → HeldOk g h → Bounds g r → Bounds g (step1ResumeHeld g a h r)
+unfolding step1ResumeHeld
+resume-held-in g a nothingHeld r k b = remember-in g 8 true r (omega arith, inl (omega arith)) (λ q. absurd (omega arith)) b
+resume-held-in g a (holds n i) r k b =
+    branch (Bounds g) (eqb (register (g .check) (take n a)) i)
+    (λ _.
+    record {
+      deep = k .0;
+      holds = tt;
+      few = omega arith;
+      two = omega arith;
+      refusals = λ q. absurd (q refl);
+      restart = λ _. refl;
+      out = λ q. true-false q;
+      begun = λ _ _. refl;
+    })
+    (λ _. remember-in g 21 true (letGo r) (omega arith, inr refl) (λ _. refl) (let-go-in g r b))
+
+settings-up : (g : Agreed) (a : List ℕ) (h : Fragment) (r : Receiver) → step1ResumeHeld g a h r .settings ≡ r .settings
+unfolding step1ResumeHeld
+settings-up g a nothingHeld r = refl
+settings-up g a (holds n k) r = branch (λ (s : Receiver). s .settings ≡ r .settings) (eqb (register (g .check) (take n a)) k) (λ _. refl) (λ _. refl)
+
+resume-in : (g : Agreed) (a : List ℕ) (w : Working) → Fit g w → Fit g (record { state = step1D1 g a (w .state); area = w .area })
+unfolding step1D1
+resume-in g a w f =
+    branch (λ r. Fit g (record { state = r; area = w .area })) (g .pre)
+    (λ _.
+    record {
+      agrees = ap agreed (settings-up g a (w .state .held) (w .state)) ∙ f .agrees;
+      bounds = resume-held-in g a (w .state .held) (w .state) (f .bounds .holds) (f .bounds);
+      long = f .long;
+    })
+    (λ _.
+    record { agrees = f .agrees; bounds = remember-in g 6 true (w .state) (omega arith, inl (omega arith)) (λ q. absurd (omega arith)) (f .bounds); long = f .long })
+
+first-in : (g : Agreed) (a : List ℕ) (w : Working) (x : ℕ) → Fit g w → w .state .refusal ≡ 0 → Fit g (step1FirstOctet g a w x)
 unfolding step1FirstOctet
-first-in g w x f clean =
+first-in g a w x f clean =
     branch (Fit g) (eqb x 0xFF)
     (λ _.
     record {
       agrees = f .agrees;
-      bounds = remember-in g 5 (w .state .resumed) (letGo (w .state)) (omega arith) (omega arith) (λ _. refl) (let-go-in g (w .state) (f .bounds));
+      bounds = remember-in g 5 (w .state .resumed) (letGo (w .state)) (omega arith, inl (omega arith)) (λ _. refl) (let-go-in g (w .state) (f .bounds));
       long = f .long;
     })
-    (λ _. branch (Fit g) (eqb x 0xD1) (λ _. resume-in g w f) (λ _. code-in g w x f clean))
+    (λ _. branch (Fit g) (eqb x 0xD1) (λ _. resume-in g a w f) (λ _. code-in g w x f clean))
 
-pub steps-in : (g : Agreed) (w : Working) (x : ℕ) → Fit g w → Fit g (steps1To4 g w x)
+pub steps-in : (g : Agreed) (a : List ℕ) (w : Working) (x : ℕ) → Fit g w → Fit g (steps1To4 g a w x)
 unfolding steps1To4
-steps-in g w x f =
+steps-in g a w x f =
     branch (Fit g) (not (eqb (w .state .refusal) 0)) (λ _. f)
     (λ e.
     let clean : w .state .refusal ≡ 0 = eqb-true (w .state .refusal) 0 (not-false (eqb (w .state .refusal) 0) e) in
-    branch (Fit g) (not (w .state .framed)) (λ _. first-in g w x f clean)
+    branch (Fit g) (not (w .state .framed)) (λ _. first-in g a w x f clean)
     (λ k. branch (Fit g) (ltb 0 (w .state .left))
     (λ _. data-in g w x f (not-false (w .state .framed) k) clean)
     (λ _. code-in g w x f clean)))
@@ -503,8 +524,15 @@ module _ (g : Agreed) (r : Receiver) (ag : agreed (r .settings) ≡ g) (b : Boun
       (λ _. record { agrees = ag; bounds = out-of-frame-in g _ _ _ tt; out = refl; tells = t })
       (λ _. record { agrees = ag; bounds = out-of-frame-in g _ _ _ (b .holds); out = refl; tells = t })
 
-  hold-in : EndsWell g (step5Hold r)
-  hold-in = record { agrees = ag; bounds = out-of-frame-in g _ _ _ (b .deep); out = refl; tells = tt }
+  -- the register keeps to its width
+  register-fits : (s : List ℕ) → register (g .check) s ≤ ones (g .check)
+  register-fits s =
+      let sound = subst (λ (h : Agreed). Sound (h .check)) ag (sound-check (r .settings)) in
+      let below : register (g .check) s < 2 ^ width (g .check) = register-below (g .check) sound s in
+      omega arith
+
+  hold-in : (area : List ℕ) → EndsWell g (step5Hold g r area)
+  hold-in area = record { agrees = ag; bounds = out-of-frame-in g _ _ _ (b .deep, register-fits (take (r .decoded) area)); out = refl; tells = tt }
 
   without-phantom-in : (area : List ℕ) (n : ℕ) → EndsWell g (step5WithoutPhantom g r area n)
   unfolding step5WithoutPhantom
@@ -520,7 +548,7 @@ module _ (g : Agreed) (r : Receiver) (ag : agreed (r .settings) ≡ g) (b : Boun
       (λ e. end-frame-in (refused (r .refusal)) (b .refusals (eqb-false (r .refusal) 0 (not-true (eqb (r .refusal) 0) e)) .0))
       (λ _. branch (EndsWell g) (isNoBlock (r .last)) (λ _. end-frame-in (refused 9) (omega arith))
       (λ _. branch (EndsWell g) (ltb 0 (r .left))
-      (λ _. branch (EndsWell g) (g .pre) (λ _. hold-in) (λ _. end-frame-in (refused 11) (omega arith)))
+      (λ _. branch (EndsWell g) (g .pre) (λ _. hold-in area) (λ _. end-frame-in (refused 11) (omega arith)))
       (λ _. branch (EndsWell g) (isD0 (r .last)) (λ _. end-frame-in (refused 12) (omega arith)) (λ _. without-phantom-in area (r .decoded - 1)))))
 
   flag-in : (area : List ℕ) → EndsWell g (atFlag g r area)
@@ -552,7 +580,7 @@ pub record AfterOctet (g : Agreed) (h : Receive) : Type 0 where
 pub other-passes : (g : Agreed) (e : ReceiverEnd) (x : ℕ) → (x ≡ flag → ⊥) → Ready g e → AfterOctet g (receive e x)
 other-passes g e x other·x z =
     rw (receive-other g e z x other·x)
-    (record { ready = put-back-ready g e z _ (steps-in g (work e) (fromLine x) (fit-work g e z)); silent = refl })
+    (record { ready = put-back-ready g e z _ (steps-in g (aside e) (work e) (fromLine x) (fit-work g e z)); silent = refl })
 
 pub receive-ready : (g : Agreed) (e : ReceiverEnd) (x : ℕ) → Ready g e → Ready g (receive e x .after)
 receive-ready g e x z =

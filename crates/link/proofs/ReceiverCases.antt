@@ -1,11 +1,11 @@
 -- The receiver's steps in each of their cases, from the tests that lead to it.
 use mathlib.Core.Path.{_≡_, refl, ap, _∙_}
-use mathlib.Core.Bool.{Bool, true, false, not, _&&_, _||_, and-false}
+use mathlib.Core.Bool.{Bool, true, false, not, _&&_, _||_, and-false, and-comm}
 use mathlib.Core.List.{List, [], _∷_}
 use Prim.Native.Nat.{ℕ, _+_, _-_, _≤_, _<_}
 use native.Mathlib.Omega.{arith}
 use borrow.Author.Tests.{lt-ltb, le-ltb, eq-eqb, ne-eqb, le-leb}
-use lib.Dec.{leb, ltb, eqb}
+use lib.Dec.{ltb, eqb}
 use lib.ListN.{length, replicate}
 use Rattle.fcs.specs.Notation.{if_then_else_}
 use Rattle.cobs.specs.CodeBlocks.{flag, fromLine, meaning}
@@ -24,6 +24,7 @@ use Rattle.link.specs.Receiver.{
   heldOk,
   freshOk,
   lastBlockOk,
+  refusalOk,
   inBounds,
   step4Refuse,
   step3Write,
@@ -31,6 +32,8 @@ use Rattle.link.specs.Receiver.{
   step3Data,
   step2ByMeaning,
   step2Code,
+  step1D1,
+  step1FirstOctet,
   steps1To4,
   isNoBlock,
   isD0,
@@ -48,7 +51,7 @@ use Rattle.link.specs.Receiver.{
 -- what is asked besides the counts
 abbrev pub marksOk : Receiver → Bool
 marksOk r =
-    (eqb (r .refusal) 0 || leb 5 (r .refusal) && leb (r .refusal) 10)
+    refusalOk (r .refusal)
     && (if r .framed then not (eqb (r .refusal) 0) || lastBlockOk (r .last) r else freshOk r)
 
 module _ (g : Agreed) (r : Receiver) where
@@ -62,8 +65,8 @@ choice-same false = refl
 
 -- of the marks: a refusal is remembered only in a frame; without one, in a frame and outside
 module _ (r : Receiver) where
-  pub refusal-ok : (r .refusal ≡ 0 → ⊥) → 5 ≤ r .refusal → r .refusal ≤ 10 → marksOk r ≡ r .framed
-  refusal-ok e l m = simp (ne-eqb _ _ e, le-leb _ _ l, le-leb _ _ m, and-false, choice-same)
+  pub refused-ok : (r .refusal ≡ 0 → ⊥) → marksOk r ≡ (r .framed && refusalOk (r .refusal))
+  refused-ok e = simp (ne-eqb _ _ e, and-false, choice-same, and-comm)
 
   pub framed-ok : r .refusal ≡ 0 → r .framed ≡ true → marksOk r ≡ lastBlockOk (r .last) r
   framed-ok e f = simp (eq-eqb _ _ e, f)
@@ -102,9 +105,14 @@ module _ (w : Working) (c n z : ℕ) (m : meaning (agreed (w .state .settings) .
   unfolding step2Code step2ByMeaning
   some-data e = simp (m, ne-eqb _ _ e)
 
-skips : (g : Agreed) (w : Working) (x : ℕ) → (w .state .refusal ≡ 0 → ⊥) → steps1To4 g w x ≡ w
+skips : (g : Agreed) (a : List ℕ) (w : Working) (x : ℕ) → (w .state .refusal ≡ 0 → ⊥) → steps1To4 g a w x ≡ w
 unfolding steps1To4
-skips g w x n = simp (ne-eqb _ _ n)
+skips g a w x n = simp (ne-eqb _ _ n)
+
+D1-begins : (g : Agreed) (a : List ℕ) (w : Working) → w .state .refusal ≡ 0 → w .state .framed ≡ false
+    → steps1To4 g a w 0xD1 ≡ record { state = step1D1 g a (w .state); area = w .area }
+unfolding steps1To4 step1FirstOctet
+D1-begins g a w n f = simp (eq-eqb _ _ n, f)
 
 -- ---- the flag of a frame
 
@@ -119,7 +127,7 @@ module _ (g : Agreed) (r : Receiver) (area : List ℕ) where
     no-block l = simp (eq-eqb _ _ n, l)
 
     module _ (l : isNoBlock (r .last) ≡ false) where
-      pub broken-off : 0 < r .left → step5Flag g r area ≡ step5InBlock g r
+      pub broken-off : 0 < r .left → step5Flag g r area ≡ step5InBlock g r area
       unfolding step5Flag
       broken-off b = simp (eq-eqb _ _ n, l, lt-ltb _ _ b)
 
@@ -170,18 +178,26 @@ module _ (e : ReceiverEnd) (x : ℕ) where
       flag-second h t = simp (v, s, b, eq-eqb _ _ h, t)
 
       pub octet-first : (x ≡ flag → ⊥) → e .state .turn ≡ false
-          → receive e x ≡ inFirst e (steps1To4 settled (record { state = e .state; area = e .first }) (fromLine x))
+          → receive e x ≡ inFirst e (steps1To4 settled (e .second) (record { state = e .state; area = e .first }) (fromLine x))
       unfolding receive
       octet-first h t = simp (v, s, b, ne-eqb _ _ h, t)
 
       pub octet-second : (x ≡ flag → ⊥) → e .state .turn ≡ true
-          → receive e x ≡ inSecond e (steps1To4 settled (record { state = e .state; area = e .second }) (fromLine x))
+          → receive e x ≡ inSecond e (steps1To4 settled (e .first) (record { state = e .state; area = e .second }) (fromLine x))
       unfolding receive
       octet-second h t = simp (v, s, b, ne-eqb _ _ h, t)
+
+      -- D1 that begins a frame: neither area is written to
+      module _ (h : x ≡ flag → ⊥) (n : e .state .refusal ≡ 0) (f : e .state .framed ≡ false) (d : fromLine x ≡ 0xD1) where
+        pub D1-second : e .state .turn ≡ true → receive e x ≡ inSecond e (record { state = step1D1 settled (e .first) (e .state); area = e .second })
+        D1-second t = octet-second h t ∙ ap (inSecond e) (ap (steps1To4 settled (e .first) _) d ∙ D1-begins settled (e .first) _ n f)
+
+        pub D1-first : e .state .turn ≡ false → receive e x ≡ inFirst e (record { state = step1D1 settled (e .second) (e .state); area = e .first })
+        D1-first t = octet-first h t ∙ ap (inFirst e) (ap (steps1To4 settled (e .second) _) d ∙ D1-begins settled (e .second) _ n f)
 
       -- a refusal is remembered
       pub skipped : (x ≡ flag → ⊥) → (e .state .refusal ≡ 0 → ⊥) → receive e x ≡ record { report = quiet; after = e }
       skipped h n =
           decide (e .state .turn)
-          (λ t. octet-second h t ∙ ap (inSecond e) (skips settled (record { state = e .state; area = e .second }) (fromLine x) n))
-          (λ t. octet-first h t ∙ ap (inFirst e) (skips settled (record { state = e .state; area = e .first }) (fromLine x) n))
+          (λ t. octet-second h t ∙ ap (inSecond e) (skips settled (e .first) (record { state = e .state; area = e .second }) (fromLine x) n))
+          (λ t. octet-first h t ∙ ap (inFirst e) (skips settled (e .second) (record { state = e .state; area = e .first }) (fromLine x) n))

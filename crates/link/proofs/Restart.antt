@@ -12,16 +12,16 @@ use Rattle.cobs.proofs.Tests.{decide}
 use Rattle.cobs.proofs.Exchange.{from-line}
 use Rattle.link.specs.Agreed.{Agreed, agreed}
 use Rattle.link.specs.Answers.{quiet, held, refused}
-use Rattle.link.specs.Receiver.{Fragment, nothingHeld, holds, Receiver, ReceiverEnd, Receive, inBounds, step4Remember, step1Restart, step1ResumeHeld, step1D1, step1FirstOctet, steps1To4, step5End, atFlag, work, putBack, flagged, receive}
+use Rattle.link.specs.Receiver.{Fragment, nothingHeld, holds, Receiver, ReceiverEnd, Receive, inBounds, step4Remember, step1Restart, step1ResumeHeld, step1D1, step1FirstOctet, steps1To4, step5End, atFlag, work, aside, putBack, flagged, receive}
 use Rattle.link.specs.ReceiverParts.{ReceiverReady}
 use Rattle.link.specs.Runs.{receives, received}
 use Rattle.link.specs.EachCall.{HeldThen, NotHeldThen}
-use Rattle.link.specs.Demands.{ReportAndPacket, reportAndPacket, NoHeldReport, restarted, Restart}
+use Rattle.link.specs.Demands.{ReportAndPacket, reportAndPacket, NoHeldReport, cleared, Restart}
 use Rattle.link.proofs.Tests.{if-so}
 use Rattle.link.proofs.ReceiverBounds.{bounds, Ready, receive-flag, receive-other, first-octet, other-passes, receive-ready}
 use Rattle.link.proofs.ReceiverCases.{remembered}
 use Rattle.link.proofs.ReadOn.{receiver-ready, ready-of, skips, first-stays, second-stays}
-use Rattle.link.proofs.Resumed.{D1-is}
+use Rattle.link.proofs.Resumed.{D1-does}
 use Rattle.link.proofs.AreasAside.{areas-aside}
 use Rattle.link.proofs.EachCall.{receives-so}
 
@@ -48,36 +48,36 @@ module _ (g : Agreed) (e : ReceiverEnd) (z : Ready g e) (out : e .state .framed 
   s = e .state
 
   -- an octet that only the state is changed by
-  abbrev becomes : Receiver → ReceiverEnd
+  abbrev pub becomes : Receiver → ReceiverEnd
   becomes r = record { state = r; first = e .first; second = e .second }
 
   put-back-state : (r : Receiver) → putBack e (record { state = r; area = work e .area }) ≡ becomes r
   put-back-state r = rw (first-stays (s .turn) (e .first) (e .second), second-stays (s .turn) (e .first) (e .second))
 
   -- FF
-  FF-is : receive e 0xFF ≡ record { report = quiet; after = becomes (step4Remember 5 false (restarted e .state)) }
+  FF-is : receive e 0xFF ≡ record { report = quiet; after = becomes (step4Remember 5 false (cleared e .state)) }
   unfolding step1FirstOctet
   FF-is =
       let o = z .bounds .out out in
       receive-other g e z 0xFF (λ q. omega arith)
       ∙ ap (λ (d : ReceiverEnd). record { report = quiet; after = d })
-      (ap (putBack e) (ap (steps1To4 g (work e)) (from-line 0xFF (λ q. omega arith)) ∙ first-octet g (work e) 0xFF (z .bounds) out)
+      (ap (putBack e) (ap (steps1To4 g (aside e) (work e)) (from-line 0xFF (λ q. omega arith)) ∙ first-octet g (aside e) (work e) 0xFF (z .bounds) out)
       ∙ (put-back-state (step1Restart s) ∙ rw (o .decoded·0, o .resumed·0)))
+
+  -- D1 that the area is not changed by
+  pub D1-becomes : (r : Receiver) → step1D1 g (aside e) s ≡ r → receive e 0xD1 ≡ record { report = quiet; after = becomes r }
+  D1-becomes r is =
+      D1-does g e z out 0xD1 (λ q. omega arith) (from-line 0xD1 (λ q. omega arith))
+      ∙ ap (λ (d : ReceiverEnd). record { report = quiet; after = d })
+      (ap (λ (t : Receiver). putBack e (record { state = t; area = work e .area })) is ∙ put-back-state r)
 
   -- D1 with nothing held
   D1-none : g .pre ≡ true → s .held ≡ nothingHeld → receive e 0xD1 ≡ record { report = quiet; after = becomes (step4Remember 8 true s) }
   unfolding step1D1 step1ResumeHeld
-  D1-none pre none =
-      receive-other g e z 0xD1 (λ q. omega arith)
-      ∙ ap (λ (d : ReceiverEnd). record { report = quiet; after = d })
-      (ap (putBack e)
-      (ap (steps1To4 g (work e)) (from-line 0xD1 (λ q. omega arith))
-      ∙ (D1-is g e z out
-      ∙ ap (λ (r : Receiver). record { state = r; area = work e .area }) (if-so _ _ _ pre ∙ ap (λ (k : Fragment). step1ResumeHeld k s) none)))
-      ∙ put-back-state (step4Remember 8 true s))
+  D1-none pre none = D1-becomes (step4Remember 8 true s) (if-so _ _ _ pre ∙ ap (λ (k : Fragment). step1ResumeHeld g (aside e) k s) none)
 
   -- so refused, to its flag
-  refused-first : (x n : ℕ) (r : Receiver) → (x ≡ flag → ⊥) → receive e x ≡ record { report = quiet; after = becomes r } → r .framed ≡ true → r .refusal ≡ n → (n ≡ 0 → ⊥)
+  pub refused-first : (x n : ℕ) (r : Receiver) → (x ≡ flag → ⊥) → receive e x ≡ record { report = quiet; after = becomes r } → r .framed ≡ true → r .refusal ≡ n → (n ≡ 0 → ⊥)
       → (rest : List ℕ) → (List·Memᴰ flag rest → ⊥)
       → receive (received e (x ∷ rest)) flag ≡ flagged (becomes r) (step5End (refused n) r)
   unfolding received
@@ -86,7 +86,7 @@ module _ (g : Agreed) (e : ReceiverEnd) (z : Ready g e) (out : e .state .framed 
       ap (λ (h : Receive). receive (received (h .after) rest) flag) is
       ∙ (refused-at rest g (becomes r) ready f (λ q. some (sym k ∙ q)) none ∙ ap (λ (m : ℕ). flagged (becomes r) (step5End (refused m) r)) k)
 
-  restart-frame : (rest : List ℕ) → (List·Memᴰ flag rest → ⊥) → receive (received e (0xFF ∷ rest)) flag ≡ record { report = refused 5; after = restarted e }
+  restart-frame : (rest : List ℕ) → (List·Memᴰ flag rest → ⊥) → receive (received e (0xFF ∷ rest)) flag ≡ record { report = refused 5; after = cleared e }
   restart-frame rest none = refused-first 0xFF 5 _ (λ q. omega arith) FF-is refl refl (λ q. omega arith) rest none
 
   none-to-resume : g .pre ≡ true → s .held ≡ nothingHeld → (rest : List ℕ) → (List·Memᴰ flag rest → ⊥)
@@ -97,15 +97,15 @@ module _ (g : Agreed) (e : ReceiverEnd) (z : Ready g e) (out : e .state .framed 
 -- ---- what is reported after it
 
 -- two receivers that came to the same refused frame
-forgets-in : (e f : ReceiverEnd) → ReceiverReady e → ReceiverReady f → e .state .framed ≡ false → f .state ≡ restarted e .state
+forgets-in : (e f : ReceiverEnd) → ReceiverReady e → ReceiverReady f → e .state .framed ≡ false → f .state ≡ cleared e .state
     → (line : List ℕ) → map reportAndPacket (receives e (0xFF ∷ line)) ≡ map reportAndPacket (receives f (0xFF ∷ line))
 unfolding receives
 forgets-in e f a b out same line =
     let g = agreed (e .state .settings) in
-    let f₁ : ReceiverEnd = record { state = restarted e .state; first = f .first; second = f .second } in
+    let f₁ : ReceiverEnd = record { state = cleared e .state; first = f .first; second = f .second } in
     let is : f ≡ f₁ = ap (λ (r : Receiver). record { state = r; first = f .first; second = f .second }) same in
     let c : ReceiverReady f₁ = subst ReceiverReady is b in
-    let refused·5 : Receiver = step4Remember 5 false (restarted e .state) in
+    let refused·5 : Receiver = step4Remember 5 false (cleared e .state) in
     let e₂ : ReceiverEnd = record { state = refused·5; first = e .first; second = e .second } in
     let f₂ : ReceiverEnd = record { state = refused·5; first = f .first; second = f .second } in
     rw is
@@ -125,7 +125,7 @@ module _ (e : ReceiverEnd) (a : ReceiverReady e) (none : e .state .held ≡ noth
       ∙ decide (e .state .framed)
       (λ f.
       ⊎-elim
-      (λ (t : HeldThen (e .state) (receive e flag)). absurd (unheld _ _ (ap (λ (y : ℕ). receive e y .report) is ∙ t .0)))
+      (λ (t : HeldThen e (receive e flag)). absurd (unheld _ _ (ap (λ (y : ℕ). receive e y .report) is ∙ t .0)))
       (λ t. ap (λ (r : Receiver). r .held) (t .state) ∙ given t)
       (receives-so .frame e a f .report))
       (λ f. ap (λ (h : Receive). h .after .state .held) (receives-so .empty e a f) ∙ none))
@@ -154,10 +154,10 @@ until-held e a out line unheld =
     none-held line (receive e 0xFF .after) (receiver-ready _ _ (other-passes _ e 0xFF (λ q. omega arith) z .ready))
     (ap (λ (h : Receive). h .after .state .held) (FF-is _ e z out)) (λ h n replaced m q. unheld h n replaced (List·Memᴰ·tail m) q)
 
-five-and-held : (r : Receiver) (n : ℕ) → r .refusal ≡ 5 → r .held ≡ holds n → inBounds (agreed (r .settings)) r ≡ false
-five-and-held r n five some =
+five-and-held : (r : Receiver) (n k : ℕ) → r .refusal ≡ 5 → r .held ≡ holds n k → inBounds (agreed (r .settings)) r ≡ false
+five-and-held r n k five some =
     decide (inBounds (agreed (r .settings)) r)
-    (λ b. absurd (let none : nothingHeld ≡ holds n = sym (bounds _ r b .restart five) ∙ some in let z : _≡_ {A = ℕ} 0 1 = cc in omega arith))
+    (λ b. absurd (let none : nothingHeld ≡ holds n k = sym (bounds _ r b .restart five) ∙ some in let z : _≡_ {A = ℕ} 0 1 = cc in omega arith))
     (λ b. b)
 
 pub restart : Restart

@@ -8,15 +8,16 @@ use native.Mathlib.Omega.{arith}
 use borrow.Author.Tests.{eqb-true, eqb-false, ltb-true, lt-ltb, le-ltb, eq-eqb, not-false}
 use lib.Dec.{ltb, eqb}
 use lib.ListN.{length, take, replicate}
-use Rattle.fcs.specs.CheckSequence.{good}
-use Rattle.cobs.specs.CodeBlocks.{flag}
+use Rattle.fcs.specs.CheckSequence.{register, good}
+use Rattle.cobs.specs.CodeBlocks.{flag, fromLine}
 use Rattle.cobs.specs.declared.Meaning.the-variants.{InTable}
 use Rattle.cobs.proofs.Tests.{branch, decide}
 use Rattle.cobs.proofs.Table.{Row, row-read}
 use Rattle.link.specs.Agreed.{Agreed, leastFrame, mostDecoded}
-use Rattle.link.specs.Receiver.{Fragment, nothingHeld, holds, Receiver, Working, ReceiverEnd, Ended, isNoBlock, isD0, step4Refuse, step3Decode, step3Data, step2ByMeaning, step2Code, step1ResumeHeld, step1D1, step1FirstOctet, steps1To4, step5WithoutPhantom, step5Flag, atFlag, work, receive}
+use Rattle.link.specs.Answers.{quiet}
+use Rattle.link.specs.Receiver.{Fragment, nothingHeld, holds, Receiver, Working, ReceiverEnd, Ended, isNoBlock, isD0, step4Refuse, step3Decode, step3Data, step2ByMeaning, step2Code, step1ResumeHeld, step1D1, step1FirstOctet, steps1To4, step5WithoutPhantom, step5Flag, atFlag, work, aside, putBack, receive}
 use Rattle.link.proofs.Tests.{if-so, if-not, true-false}
-use Rattle.link.proofs.ReceiverBounds.{Ready, receive-flag, first-octet, by-end}
+use Rattle.link.proofs.ReceiverBounds.{Ready, receive-flag, receive-other, first-octet, by-end}
 use Rattle.link.proofs.Follow.{code-is}
 
 -- in a resumed frame, with n data octets left in the block unless a refusal is remembered
@@ -39,23 +40,23 @@ decodes g w n xs i =
     branch (λ (v : Working). InStep n (v .state)) (ltb (mostDecoded g) (w .state .decoded + length xs)) (λ _. refuses-ten w n (i .resumed·is))
     (λ _. record { framed·is = i .framed·is; resumed·is = i .resumed·is; left·is = i .left·is })
 
-module _ (g : Agreed) (w : Working) (n : ℕ) (i : InStep n (w .state)) where
+module _ (g : Agreed) (o : List ℕ) (w : Working) (n : ℕ) (i : InStep n (w .state)) where
   abbrev r : Receiver
   r = w .state
 
   -- with a refusal remembered the octet is skipped
-  skips : (x : ℕ) → eqb (r .refusal) 0 ≡ false → steps1To4 g w x ≡ w
+  skips : (x : ℕ) → eqb (r .refusal) 0 ≡ false → steps1To4 g o w x ≡ w
   unfolding steps1To4
   skips x e = if-so _ _ _ (ap not e)
 
-  unless-refused : (x m : ℕ) → (r .refusal ≡ 0 → InStep m (steps1To4 g w x .state)) → InStep m (steps1To4 g w x .state)
+  unless-refused : (x m : ℕ) → (r .refusal ≡ 0 → InStep m (steps1To4 g o w x .state)) → InStep m (steps1To4 g o w x .state)
   unless-refused x m f =
       decide (eqb (r .refusal) 0) (λ e. f (eqb-true (r .refusal) 0 e))
       (λ e.
       rw (skips x e) (record { framed·is = i .framed·is; resumed·is = i .resumed·is; left·is = λ c. absurd (eqb-false (r .refusal) 0 e c) }))
 
   -- a code begins its block
-  step2 : (x : ℕ) → r .refusal ≡ 0 → n ≡ 0 → steps1To4 g w x ≡ step2Code g w x
+  step2 : (x : ℕ) → r .refusal ≡ 0 → n ≡ 0 → steps1To4 g o w x ≡ step2Code g w x
   unfolding steps1To4
   step2 x c h =
       if-not _ _ _ (ap not (eq-eqb (r .refusal) 0 c))
@@ -68,11 +69,11 @@ module _ (g : Agreed) (w : Working) (n : ℕ) (i : InStep n (w .state)) where
       (λ e. decodes g _ m (replicate z 0) (record { framed·is = refl; resumed·is = i .resumed·is; left·is = λ _. sym (eqb-true m 0 e) }))
       (λ _. record { framed·is = refl; resumed·is = i .resumed·is; left·is = λ _. refl })
 
-  pub code-in-step : (c m z : ℕ) → Row (g .zxe) c m z → n ≡ 0 → InStep m (steps1To4 g w c .state)
+  pub code-in-step : (c m z : ℕ) → Row (g .zxe) c m z → n ≡ 0 → InStep m (steps1To4 g o w c .state)
   code-in-step c m z row h = unless-refused c m (λ e. rw (step2 c e h ∙ code-is g w c m z (row-read row)) (begins c m z))
 
   -- a data octet leaves one less
-  step3 : (x : ℕ) → r .refusal ≡ 0 → 0 < n → steps1To4 g w x ≡ step3Data g w x
+  step3 : (x : ℕ) → r .refusal ≡ 0 → 0 < n → steps1To4 g o w x ≡ step3Data g w x
   unfolding steps1To4
   step3 x c h =
       if-not _ _ _ (ap not (eq-eqb (r .refusal) 0 c))
@@ -88,7 +89,7 @@ module _ (g : Agreed) (w : Working) (n : ℕ) (i : InStep n (w .state)) where
       (record { framed·is = i .framed·is; resumed·is = i .resumed·is; left·is = λ _. omega (arith, eqb-true (r .left) 1 e, i .left·is c) }))
       (λ _. record { framed·is = i .framed·is; resumed·is = i .resumed·is; left·is = λ _. omega (arith, i .left·is c) }))
 
-  pub data-in-step : (x : ℕ) → 0 < n → InStep (n - 1) (steps1To4 g w x .state)
+  pub data-in-step : (x : ℕ) → 0 < n → InStep (n - 1) (steps1To4 g o w x .state)
   data-in-step x h = unless-refused x (n - 1) (λ e. rw (step3 x e h) (takes x e))
 
 -- ---- D1 and the closing flag
@@ -97,16 +98,25 @@ module _ (g : Agreed) (e : ReceiverEnd) (z : Ready g e) where
   abbrev s : Receiver
   s = e .state
 
-  resume-in-step : (k : Fragment) → InStep 0 (step1ResumeHeld k s)
+  resume-in-step : (k : Fragment) → InStep 0 (step1ResumeHeld g (aside e) k s)
   unfolding step1ResumeHeld
   resume-in-step nothingHeld = record { framed·is = refl; resumed·is = refl; left·is = λ c. absurd (omega arith) }
-  resume-in-step (holds n) = record { framed·is = refl; resumed·is = refl; left·is = λ _. refl }
+  resume-in-step (holds n k) =
+      branch (InStep 0) (eqb (register (g .check) (take n (aside e))) k) (λ _. record { framed·is = refl; resumed·is = refl; left·is = λ _. refl })
+      (λ _. record { framed·is = refl; resumed·is = refl; left·is = λ c. absurd (omega arith) })
 
-  pub D1-is : s .framed ≡ false → steps1To4 g (work e) 0xD1 ≡ record { state = step1D1 g s; area = work e .area }
+  pub D1-is : s .framed ≡ false → steps1To4 g (aside e) (work e) 0xD1 ≡ record { state = step1D1 g (aside e) s; area = work e .area }
   unfolding step1FirstOctet
-  D1-is out = first-octet g (work e) 0xD1 (z .bounds) out
+  D1-is out = first-octet g (aside e) (work e) 0xD1 (z .bounds) out
 
-  pub D1-in-step : s .framed ≡ false → InStep 0 (steps1To4 g (work e) 0xD1 .state)
+  -- the call for it
+  pub D1-does : s .framed ≡ false → (x : ℕ) → (x ≡ flag → ⊥) → fromLine x ≡ 0xD1
+      → receive e x ≡ record { report = quiet; after = putBack e (record { state = step1D1 g (aside e) s; area = work e .area }) }
+  D1-does out x other is =
+      receive-other g e z x other
+      ∙ ap (λ (w : Working). record { report = quiet; after = putBack e w }) (ap (steps1To4 g (aside e) (work e)) is ∙ D1-is out)
+
+  pub D1-in-step : s .framed ≡ false → InStep 0 (steps1To4 g (aside e) (work e) 0xD1 .state)
   unfolding step1D1
   D1-in-step out =
       rw (D1-is out)

@@ -1,6 +1,6 @@
 -- Proofs by the value of a test, beside those of `cobs`.
 use mathlib.Core.Path.{_≡_, refl}
-use mathlib.Core.Bool.{Bool, true, false, cond, _&&_, _||_}
+use mathlib.Core.Bool.{Bool, true, false, cond, not, _&&_, _||_}
 use mathlib.Core.Logic.{_⊎_, ⊎-elim}
 use Prim.Native.Nat.{ℕ, _≤_, _<_}
 use borrow.Author.Tests.{ltb-false, lt-ltb, le-ltb}
@@ -13,6 +13,10 @@ if-so b x y e = rw e
 
 pub if-not {ℓ} : {A : Type ℓ} (b : Bool) (x y : A) → b ≡ false → cond b x y ≡ y
 if-not b x y e = rw e
+
+pub not-not : (b : Bool) → not (not b) ≡ b
+not-not true = refl
+not-not false = refl
 
 -- tests joined
 pub and-intro : (a b : Bool) → a ≡ true → b ≡ true → (a && b) ≡ true

@@ -2,7 +2,8 @@
 -- the number of a refusal are small.
 use mathlib.Core.Bool.{Bool, not, _||_}
 use mathlib.Core.List.{List}
-use mathlib.Core.Path.{_≡_, refl, ap, _∙_}
+use mathlib.Core.Logic.{_⊎_, inl, inr, ⊎-elim}
+use mathlib.Core.Path.{_≡_, ap, _∙_}
 use Prim.Native.Nat.{ℕ, _+_, _-_, _≤_}
 use native.Mathlib.Omega.{arith}
 use borrow.Author.Tests.{eqb-false, ltb-false, not-true, not-false}
@@ -27,14 +28,14 @@ module _ (g : Agreed) (e : ReceiverEnd) (long : mostDecoded g ≤ length (work e
   whole-within : (n : ℕ) → n + 1 ≤ mostDecoded g → Ends (step5WithoutPhantom g (e .state) (work e .area) n)
   unfolding step5WithoutPhantom
   whole-within n h =
-      branch Ends (ltb n (leastFrame g)) (λ _. (omega arith, omega arith))
+      branch Ends (ltb n (leastFrame g)) (λ _. (omega arith, inl (omega arith)))
       (λ k.
       let least : leastFrame g ≤ n = ltb-false n (leastFrame g) k in
       branch Ends (good (g .check) (take n (work e .area)))
       (λ good·n.
       let all : n - g .check .fcsLength + g .check .fcsLength ≡ n = omega arith in
       (omega arith, omega arith, omega arith, ap (λ (i : ℕ). good (g .check) (take i (work e .area))) all ∙ good·n))
-      (λ _. (omega arith, omega arith)))
+      (λ _. (omega arith, inl (omega arith))))
 
   flag-within : Ends (atFlag g (e .state) (work e .area))
   unfolding atFlag step5Flag
@@ -43,10 +44,10 @@ module _ (g : Agreed) (e : ReceiverEnd) (long : mostDecoded g ≤ length (work e
       let deep = b .deep in
       branch Ends (r .framed)
       (λ _. branch Ends (not (eqb (r .refusal) 0))
-      (λ k. let some = b .refusals (eqb-false (r .refusal) 0 (not-true (eqb (r .refusal) 0) k)) in (omega (arith, some .0), omega (arith, some .1)))
-      (λ _. branch Ends (isNoBlock (r .last)) (λ _. (omega arith, omega arith))
-      (λ _. branch Ends (ltb 0 (r .left)) (λ _. branch Ends (g .pre) (λ _. deep) (λ _. (omega arith, omega arith)))
-      (λ _. branch Ends (isD0 (r .last)) (λ _. (omega arith, omega arith)) (λ _. whole-within (r .decoded - 1) (omega arith))))))
+      (λ k. let some = b .refusals (eqb-false (r .refusal) 0 (not-true (eqb (r .refusal) 0) k)) in (omega (arith, some .0), ⊎-elim (λ l. inl (omega arith)) inr (some .1)))
+      (λ _. branch Ends (isNoBlock (r .last)) (λ _. (omega arith, inl (omega arith)))
+      (λ _. branch Ends (ltb 0 (r .left)) (λ _. branch Ends (g .pre) (λ _. deep) (λ _. (omega arith, inl (omega arith))))
+      (λ _. branch Ends (isD0 (r .last)) (λ _. (omega arith, inl (omega arith))) (λ _. whole-within (r .decoded - 1) (omega arith))))))
       (λ _. tt)
 
 -- the call
@@ -56,9 +57,9 @@ within e x =
     let g = agreed (e .state .settings) in
     let most = mostDecoded g in
     let P : Receive → Type 0 = λ h. Within g (h .report) (h .after) in
-    branch P (not (valid g)) (λ _. (omega arith, omega arith))
-    (λ _. branch P (ltb (length (e .first)) most || ltb (length (e .second)) most) (λ _. (omega arith, omega arith))
-    (λ s. branch P (not (inBounds g (e .state))) (λ _. (omega arith, omega arith))
+    branch P (not (valid g)) (λ _. (omega arith, inl (omega arith)))
+    (λ _. branch P (ltb (length (e .first)) most || ltb (length (e .second)) most) (λ _. (omega arith, inl (omega arith)))
+    (λ s. branch P (not (inBounds g (e .state))) (λ _. (omega arith, inl (omega arith)))
     (λ i.
     let long = not-below (length (e .first)) most (length (e .second)) most s in
     branch P (eqb x flag)
@@ -66,28 +67,33 @@ within e x =
     (bounds g (e .state) (not-false (inBounds g (e .state)) i)))
     (λ _. tt))))
 
--- a receiver that is in bounds and has areas long enough refuses no call: what it refuses are frames
-module _ (g : Agreed) (r : Receiver) (b : Bounds g r) where
-  abbrev OfFrame : Ended → Type 0
-  OfFrame t = (n : ℕ) → t .report ≡ refused n → 5 ≤ n
+-- what a flag refuses is what is remembered, or from 9 to 14
+module _ (g : Agreed) (r : Receiver) where
+  abbrev Which : Ended → Type 0
+  Which t = (n : ℕ) → t .report ≡ refused n → ((r .refusal ≡ n) × (r .refusal ≡ 0 → ⊥)) ⊎ ((9 ≤ n) × (n ≤ 14))
 
-  whole-of-frame : (area : List ℕ) (n : ℕ) → OfFrame (step5WithoutPhantom g r area n)
+  whole-refuses : (area : List ℕ) (n : ℕ) → Which (step5WithoutPhantom g r area n)
   unfolding step5WithoutPhantom
-  whole-of-frame area n =
-      branch OfFrame (ltb n (leastFrame g)) (λ _ k e. let z : 13 ≡ k = cc in omega arith)
-      (λ _. branch OfFrame (good (g .check) (take n area)) (λ _ k e. absurd (let z : _≡_ {A = ℕ} 0 1 = cc in omega arith)) (λ _ k e. let z : 14 ≡ k = cc in omega arith))
+  whole-refuses area n =
+      branch Which (ltb n (leastFrame g)) (λ _ k e. let z : 13 ≡ k = cc in inr (omega arith, omega arith))
+      (λ _. branch Which (good (g .check) (take n area)) (λ _ k e. absurd (let z : _≡_ {A = ℕ} 0 1 = cc in omega arith))
+      (λ _ k e. let z : 14 ≡ k = cc in inr (omega arith, omega arith)))
 
-  flag-of-frame : (area : List ℕ) → OfFrame (atFlag g r area)
+  pub flag-refuses : (area : List ℕ) → Which (atFlag g r area)
   unfolding atFlag step5Flag
-  flag-of-frame area =
-      branch OfFrame (r .framed)
-      (λ _. branch OfFrame (not (eqb (r .refusal) 0))
-      (λ k n e. let z : r .refusal ≡ n = cc in let some = b .refusals (eqb-false (r .refusal) 0 (not-true (eqb (r .refusal) 0) k)) in omega (arith, some .0))
-      (λ _. branch OfFrame (isNoBlock (r .last)) (λ _ n e. let z : 9 ≡ n = cc in omega arith)
-      (λ _. branch OfFrame (ltb 0 (r .left))
-      (λ _. branch OfFrame (g .pre) (λ _ n e. absurd (let z : _≡_ {A = ℕ} 0 1 = cc in omega arith)) (λ _ n e. let z : 11 ≡ n = cc in omega arith))
-      (λ _. branch OfFrame (isD0 (r .last)) (λ _ n e. let z : 12 ≡ n = cc in omega arith) (λ _. whole-of-frame area (r .decoded - 1))))))
+  flag-refuses area =
+      branch Which (r .framed)
+      (λ _. branch Which (not (eqb (r .refusal) 0)) (λ k n e. let z : r .refusal ≡ n = cc in inl (z, eqb-false (r .refusal) 0 (not-true (eqb (r .refusal) 0) k)))
+      (λ _. branch Which (isNoBlock (r .last)) (λ _ n e. let z : 9 ≡ n = cc in inr (omega arith, omega arith))
+      (λ _. branch Which (ltb 0 (r .left))
+      (λ _. branch Which (g .pre) (λ _ n e. absurd (let z : _≡_ {A = ℕ} 0 1 = cc in omega arith))
+      (λ _ n e. let z : 11 ≡ n = cc in inr (omega arith, omega arith)))
+      (λ _. branch Which (isD0 (r .last)) (λ _ n e. let z : 12 ≡ n = cc in inr (omega arith, omega arith)) (λ _. whole-refuses area (r .decoded - 1))))))
       (λ _ n e. absurd (let z : _≡_ {A = ℕ} 0 1 = cc in omega arith))
+
+-- a receiver that is in bounds and has areas long enough refuses no call: what it refuses are frames
+of-frame : (g : Agreed) (r : Receiver) → Bounds g r → (area : List ℕ) (n : ℕ) → atFlag g r area .report ≡ refused n → 5 ≤ n
+of-frame g r b area n e = ⊎-elim (λ k. omega (arith, b .refusals (k .1) .0, k .0)) (λ k. omega (arith, k .0)) (flag-refuses g r area n e)
 
 pub refuses-frames : (e : ReceiverEnd) → ReceiverReady e → (x n : ℕ) → receive e x .report ≡ refused n → 5 ≤ n
 unfolding receive
@@ -95,7 +101,7 @@ refuses-frames e ready x =
     let g = agreed (e .state .settings) in
     let P : Receive → Type 0 = λ h. (n : ℕ) → h .report ≡ refused n → 5 ≤ n in
     rw (ready .valid, none-short (mostDecoded g) (length (e .first)) (length (e .second)) (ready .first, ready .second), ready .bounds)
-    (branch P (eqb x flag) (λ _. flag-of-frame g (e .state) (bounds g (e .state) (ready .bounds)) (work e .area))
+    (branch P (eqb x flag) (λ _. of-frame g (e .state) (bounds g (e .state) (ready .bounds)) (work e .area))
     (λ _ n k. absurd (let z : _≡_ {A = ℕ} 0 1 = cc in omega arith)))
 
 -- a receiver's call answers Quiet, Packet, Held or a refusal

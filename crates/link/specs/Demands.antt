@@ -3,14 +3,15 @@ use mathlib.Core.Bool.{Bool, true, false, not, _&&_}
 use mathlib.Core.List.{List, [], _∷_, _++_, map, List·Memᴰ}
 use mathlib.Core.Option.{Option, some}
 use mathlib.Core.Path.{_≡_}
-use Prim.Native.Nat.{ℕ, _+_, _/_, _≤_}
+use Prim.Native.Nat.{ℕ, _+_, _/_, _^_, _≤_}
 use lib.ListN.{length, take, replicate}
+use Rattle.fcs.specs.CheckSequence.{width, register, Burst}
 use Rattle.cobs.specs.CodeBlocks.{frame, withPhantom, flag, Block, AllAllowed, decodedOctets, lineOctets}
 use Rattle.link.specs.Agreed.{Settings, agreed, valid, leastPacket, largestFrame, mostDecoded}
 use Rattle.link.specs.Answers.{Answer, octet, idle, quiet, held, refused}
 use Rattle.link.specs.Sender.{Lane, low, high, Sender, SenderEnd, outAnswer, load, next}
 use Rattle.link.specs.Sender as sender
-use Rattle.link.specs.Receiver.{Fragment, nothingHeld, holds, Receiver, ReceiverEnd, Receive, areaOf, receive}
+use Rattle.link.specs.Receiver.{Fragment, nothingHeld, holds, Receiver, ReceiverEnd, Receive, areaOf, aside, carried, receive}
 use Rattle.link.specs.Receiver as receiver
 use Rattle.link.specs.ReceiverParts.{ReceiverReady}
 use Rattle.link.specs.Runs.{SenderCall, loading, nextOctet, Station, freshStation, afterNext, run, senderAnswers, loadedInto, Written, written, writtenOctets, sentBy, atTrue, atFalse, receives, received, packetIn, packetsIn, refusalsIn, underWay, leftAside, AllArrive, AllAsExpected, closedPackets}
@@ -152,7 +153,7 @@ Demand3 settings =
 -- what is held: the first octets of the area that does not work
 abbrev pub heldOctets : Fragment → List ℕ → List ℕ
 heldOctets nothingHeld area = []
-heldOctets (holds n) area = take n area
+heldOctets (holds n k) area = take n area
 
 -- two receivers alike in their states, in the decoded octets of their work areas and in what they hold
 pub record Alike (e f : ReceiverEnd) : Type 0 where
@@ -184,9 +185,9 @@ AreasAside = (e f : ReceiverEnd) → AreasLongEnough e → AreasLongEnough f →
 abbrev pub NoHeldReport : List Receive → Type 0
 NoHeldReport hs = (h : Receive) (n : ℕ) (replaced : Bool) → List·Memᴰ h hs → h .report ≡ held n replaced → ⊥
 
--- the receiver behind a restart: out of a frame, nothing held; the settings, the turn of the areas and the areas are as they were
-abbrev pub restarted : ReceiverEnd → ReceiverEnd
-restarted e = record { state = receiver.outOfFrame (e .state .settings) (e .state .turn) nothingHeld; first = e .first; second = e .second }
+-- the receiver out of a frame, with nothing held; the settings, the turn of the areas and the areas are as they were
+abbrev pub cleared : ReceiverEnd → ReceiverEnd
+cleared e = record { state = receiver.outOfFrame (e .state .settings) (e .state .turn) nothingHeld; first = e .first; second = e .second }
 
 -- e: any receiver that is out of a frame, in bounds and with areas long enough, whatever it holds
 --   atOnce: the FF is Quiet. From it on 5 is remembered and nothing is held; all else is as opened, but for the turn of the areas, and no octet
@@ -200,14 +201,59 @@ restarted e = record { state = receiver.outOfFrame (e .state .settings) (e .stat
 pub record Restart : Type 0 where
   pub atOnce : (e : ReceiverEnd) → ReceiverReady e → e .state .framed ≡ false
       → receive e 0xFF
-      ≡ record { report = quiet; after = record { state = receiver.inFrame receiver.noBlock false 5 (restarted e .state); first = e .first; second = e .second } }
+      ≡ record { report = quiet; after = record { state = receiver.inFrame receiver.noBlock false 5 (cleared e .state); first = e .first; second = e .second } }
   pub frame : (e : ReceiverEnd) → ReceiverReady e → e .state .framed ≡ false → (rest : List ℕ) → (List·Memᴰ flag rest → ⊥)
-      → receive (received e (0xFF ∷ rest)) flag ≡ record { report = refused 5; after = restarted e }
+      → receive (received e (0xFF ∷ rest)) flag ≡ record { report = refused 5; after = cleared e }
   pub forgets : (e f : ReceiverEnd) → ReceiverReady e → ReceiverReady f → e .state .framed ≡ false
-      → f .state ≡ restarted e .state
+      → f .state ≡ cleared e .state
       → (line : List ℕ) → map reportAndPacket (receives e (0xFF ∷ line)) ≡ map reportAndPacket (receives f (0xFF ∷ line))
   pub untilHeld : (e : ReceiverEnd) → ReceiverReady e → e .state .framed ≡ false → (line : List ℕ) → NoHeldReport (receives e (0xFF ∷ line))
       → received e (0xFF ∷ line) .state .held ≡ nothingHeld
   pub noneToResume : (e : ReceiverEnd) → ReceiverReady e → e .state .framed ≡ false → agreed (e .state .settings) .pre ≡ true → e .state .held ≡ nothingHeld
       → (rest : List ℕ) → (List·Memᴰ flag rest → ⊥) → receive (received e (0xD1 ∷ rest)) flag .report ≡ refused 8
-  pub bounds : (r : Receiver) (n : ℕ) → r .refusal ≡ 5 → r .held ≡ holds n → receiver.inBounds (agreed (r .settings)) r ≡ false
+  pub bounds : (r : Receiver) (n k : ℕ) → r .refusal ≡ 5 → r .held ≡ holds n k → receiver.inBounds (agreed (r .settings)) r ≡ false
+
+-- ---- areas changed behind the receiver's back (document 02, slip 8)
+
+-- the octets that a receiver holds
+abbrev pub octetsHeld : ReceiverEnd → List ℕ
+octetsHeld e = heldOctets (e .state .held) (aside e)
+
+-- they give the register that is carried
+abbrev pub Unchanged : ReceiverEnd → Type 0
+Unchanged e = (let g = agreed (e .state .settings) in register (g .check) (octetsHeld e) ≡ carried g (e .state .held))
+
+-- out of a frame, in bounds and with areas long enough, PRE is on and something is held: a D1 would be neither 6 nor 8
+pub record HasToResume (e : ReceiverEnd) : Type 0 where
+  pub ready : ReceiverReady e
+  pub out : e .state .framed ≡ false
+  pub pre : agreed (e .state .settings) .pre ≡ true
+  pub some : receiver.isHeld (e .state .held) ≡ true
+
+-- in a run from e nothing that is held is ever changed, and no frame is refused 21
+pub record NeverChanged (e : ReceiverEnd) (line : List ℕ) : Type 0 where
+  pub unchanged : Unchanged (received e line)
+  pub not21 : List·Memᴰ (refused 21) (map (λ (h : Receive). h .report) (receives e line)) → ⊥
+
+--   atOnce: what is held no longer gives the register: the D1 is Quiet. From it on 21 is remembered, the frame is a resumed one and nothing is
+--   held; all else is as opened, but for the turn of the areas, and no octet of them is written
+--   frame: whatever the frame has behind its D1, its flag reports 21, and the receiver is as opened, but for the turn of the areas
+--   only: it reports 21 in no other case
+--   run: with state and areas lent back as they were left, what is held stays unchanged, and 21 is not reported. From any receiver, areas too
+--   short included
+--   fresh: so from a fresh one
+--   burst: of what e holds unchanged, f, in the same state, has some bits changed, within as many neighbouring ones as the check has: 21
+--   bounds: while something is held, a register of more bits than the check is out of bounds
+pub record AreasChanged : Type 0 where
+  pub atOnce : (e : ReceiverEnd) → HasToResume e → (Unchanged e → ⊥)
+      → receive e 0xD1
+      ≡ record { report = quiet; after = record { state = receiver.inFrame receiver.noBlock true 21 (cleared e .state); first = e .first; second = e .second } }
+  pub frame : (e : ReceiverEnd) → HasToResume e → (Unchanged e → ⊥) → (rest : List ℕ) → (List·Memᴰ flag rest → ⊥)
+      → receive (received e (0xD1 ∷ rest)) flag ≡ record { report = refused 21; after = cleared e }
+  pub only : (e : ReceiverEnd) → HasToResume e → (rest : List ℕ) → receive (received e (0xD1 ∷ rest)) flag .report ≡ refused 21 → Unchanged e → ⊥
+  pub run : (e : ReceiverEnd) → Unchanged e → (e .state .refusal ≡ 21 → ⊥) → (line : List ℕ) → NeverChanged e line
+  pub fresh : (settings : Settings) (first second line : List ℕ) → NeverChanged (freshReceiver settings first second) line
+  pub burst : (e f : ReceiverEnd) → Unchanged e → f .state ≡ e .state → HasToResume f
+      → Burst (width (agreed (e .state .settings) .check)) (octetsHeld e) (octetsHeld f)
+      → (rest : List ℕ) → (List·Memᴰ flag rest → ⊥) → receive (received f (0xD1 ∷ rest)) flag .report ≡ refused 21
+  pub bounds : (r : Receiver) (n k : ℕ) → r .held ≡ holds n k → 2 ^ width (agreed (r .settings) .check) ≤ k → receiver.inBounds (agreed (r .settings)) r ≡ false

@@ -1,4 +1,4 @@
--- What holds of every single call (docs/DEMANDS.md; document 01, "Sender" and "Receiver"; document 02, slip 4): what it leaves as it was, and
+-- What holds of every single call (docs/DEMANDS.md; document 01, "Sender" and "Receiver"; document 02, slips 4 and 8): what it leaves as it was, and
 -- what becomes of what is held. The steps say it too, each for itself; here it is said of the whole call.
 use mathlib.Core.Bool.{Bool, true, false, not, _&&_}
 use mathlib.Core.List.{List}
@@ -8,12 +8,12 @@ use Prim.Native.Nat.{ℕ, _+_, _≤_, _<_}
 use lib.Dec.{eqb}
 use lib.ListN.{length, take, drop}
 use Rattle.fcs.specs.Notation.{if_then_else_}
-use Rattle.fcs.specs.CheckSequence.{good}
+use Rattle.fcs.specs.CheckSequence.{register, good}
 use Rattle.cobs.specs.CodeBlocks.{frame, flag, fromLine}
 use Rattle.link.specs.Agreed.{Settings, Agreed, agreed, validWidth, validLimit, valid, leastPacket, largestFrame, mostDecoded}
 use Rattle.link.specs.Answers.{Answer, done, octet, idle, quiet, packet, held, refused}
 use Rattle.link.specs.Sender.{Lane, noLane, Sender, SenderEnd, Load, closes, emptyLane, openedSender, openSender, laneState, withLane, outAnswer, load, next}
-use Rattle.link.specs.Receiver.{Fragment, nothingHeld, holds, noBlock, Receiver, ReceiverEnd, Receive, outOfFrame, openedReceiver, openReceiver, isHeld, areaOf, receive}
+use Rattle.link.specs.Receiver.{Fragment, nothingHeld, holds, noBlock, Receiver, ReceiverEnd, Receive, outOfFrame, openedReceiver, openReceiver, isHeld, areaOf, aside, receive}
 use Rattle.link.specs.Sender as sender
 use Rattle.link.specs.Receiver as receiver
 use Rattle.link.specs.ReceiverParts.{ReceiverReady}
@@ -69,7 +69,7 @@ pub record AreasThenState : Type 0 where
 
 -- ---- a refused call changes nothing
 
--- 1 to 4 refuse a call; 5 to 14 are reports of frames
+-- 1 to 4 refuse a call; 5 to 14 and 21 are reports of frames
 pub record RefusedChangesNothing : Type 0 where
   pub load : (l : Lane) (p : List ℕ) (s : Sender) (area : List ℕ) (n : ℕ) → load l p s area .answer ≡ refused n
       → (load l p s area .state ≡ s) × (load l p s area .area ≡ area)
@@ -114,7 +114,7 @@ DoneLoads =
 -- ---- the numbers of a report
 
 -- A packet's length is an allowed one and within the area that is named, and with its FCS the packet passes the check. No more octets are held
--- than a receiver decodes. A refusal is from 2 to 14.
+-- than a receiver decodes. A refusal is from 2 to 14, or 21.
 abbrev pub Within : Agreed → Answer → ReceiverEnd → Type 0
 Within g done e = Unit {0}
 Within g (octet x) e = Unit {0}
@@ -126,7 +126,7 @@ Within g (packet inSecond n) e =
     × (leastPacket ≤ n)
     × (good (g .check) (take (n + g .check .fcsLength) (areaOf inSecond e)) ≡ true)
 Within g (held n replaced) e = n ≤ mostDecoded g
-Within g (refused n) e = (2 ≤ n) × (n ≤ 14)
+Within g (refused n) e = (2 ≤ n) × ((n ≤ 14) ⊎ (n ≡ 21))
 
 -- of every call, whatever it is handed
 abbrev pub ReportsWithin : Type 0
@@ -154,11 +154,15 @@ pub record Resumes (n : ℕ) (e f : ReceiverEnd) : Type 0 where
 
 -- The flag of a frame.
 --   The state is as fresh but for the settings, the turn and what is held; nothing is written.
---   Held tells the count of decoded octets, and whether a frame that is no resumed one took an older fragment's place. The areas change turns.
+--   Held tells the count of decoded octets, and whether a frame that is no resumed one took an older fragment's place. The areas change turns,
+--   and the register of the decoded octets is carried.
 --   Any other report, and there is one, leaves the turn; after a resumed frame nothing is held, after another what was held.
-abbrev pub HeldThen : Receiver → Receive → Type 0
-HeldThen r h =
-    (h .report ≡ held (r .decoded) (not (r .resumed) && isHeld (r .held))) × (h .after .state ≡ outOfFrame (r .settings) (not (r .turn)) (holds (r .decoded)))
+abbrev pub HeldThen : ReceiverEnd → Receive → Type 0
+HeldThen e h =
+    (let r = e .state in
+    (h .report ≡ held (r .decoded) (not (r .resumed) && isHeld (r .held)))
+    × (h .after .state
+    ≡ outOfFrame (r .settings) (not (r .turn)) (holds (r .decoded) (register (agreed (r .settings) .check) (take (r .decoded) (areaOf (r .turn) e))))))
 
 pub record NotHeldThen (r : Receiver) (h : Receive) : Type 0 where
   pub fragment : Fragment
@@ -171,7 +175,7 @@ pub record NotHeldThen (r : Receiver) (h : Receive) : Type 0 where
 pub record EndsFrame (e : ReceiverEnd) (h : Receive) : Type 0 where
   pub first : h .after .first ≡ e .first
   pub second : h .after .second ≡ e .second
-  pub report : HeldThen (e .state) h ⊎ NotHeldThen (e .state) h
+  pub report : HeldThen e h ⊎ NotHeldThen (e .state) h
 
 pub record BlockOver (r : Receiver) : Type 0 where
   pub left : r .left ≡ 0
@@ -184,7 +188,8 @@ pub record BlockOver (r : Receiver) : Type 0 where
 --   skipped: with a refusal remembered, what still comes of the frame changes nothing
 --   remembered: with a refusal that is remembered now, the block is over
 --   mark: a frame is a resumed one exactly if its first octet is D1
---   resumes, takesIn: what becomes of an octet that is no flag
+--   resumes, takesIn: what becomes of an octet that is no flag (and of a D1 with something held that no longer gives the register:
+--   `AreasChanged`)
 pub record ReceivesSo : Type 0 where
   pub others : (e : ReceiverEnd) → ReceiverReady e → (x : ℕ) → (x ≡ flag → ⊥) → receive e x .report ≡ quiet
   pub empty : (e : ReceiverEnd) → ReceiverReady e → e .state .framed ≡ false → receive e flag ≡ record { report = quiet; after = e }
@@ -194,8 +199,8 @@ pub record ReceivesSo : Type 0 where
       → (receive e x .after .state .refusal ≡ 0 → ⊥) → BlockOver (receive e x .after .state)
   pub mark : (e : ReceiverEnd) → ReceiverReady e → (x : ℕ) → (x ≡ flag → ⊥)
       → receive e x .after .state .resumed ≡ (if e .state .framed then e .state .resumed else eqb (fromLine x) 0xD1)
-  pub resumes : (e : ReceiverEnd) → ReceiverReady e → e .state .framed ≡ false → agreed (e .state .settings) .pre ≡ true → (n : ℕ) → e .state .held ≡ holds n
-      → Resumes n e (receive e 0xD1 .after)
+  pub resumes : (e : ReceiverEnd) → ReceiverReady e → e .state .framed ≡ false → agreed (e .state .settings) .pre ≡ true → (n k : ℕ) → e .state .held ≡ holds n k
+      → register (agreed (e .state .settings) .check) (take n (aside e)) ≡ k → Resumes n e (receive e 0xD1 .after)
   pub takesIn : (e : ReceiverEnd) → ReceiverReady e → (x : ℕ) → (x ≡ flag → ⊥)
       → (e .state .framed ≡ false → fromLine x ≡ 0xD1 → agreed (e .state .settings) .pre ≡ true → e .state .held ≡ nothingHeld)
       → TakesIn x e (receive e x .after)

@@ -76,6 +76,8 @@ PacketLengths =
 --   last of them answers the flag that closes the last frame
 -- inBoundsS, inBoundsR: whether this state of a sender, or of a receiver, is in bounds
 -- leaves: what this receiver holds after these octets
+-- becomes: this receiver's state after these octets
+-- reports: what this receiver reports at a flag behind these octets
 -- decodes: how many octets a receiver in this state has decoded after this one, and which refusal it remembers
 pub data Example : Type 0 where
   bits : Settings → Bool → Bool → Example
@@ -92,6 +94,8 @@ pub data Example : Type 0 where
   inBoundsS : Sender → Bool → Example
   inBoundsR : Receiver → Bool → Example
   leaves : ReceiverEnd → List ℕ → Fragment → Example
+  becomes : ReceiverEnd → List ℕ → Receiver → Example
+  reports : ReceiverEnd → List ℕ → Answer → Example
   decodes : Receiver → ℕ → ℕ → ℕ → Example
 
 abbrev pub Tells : Example → Type 0
@@ -115,6 +119,8 @@ Tells (decodes r x n refusal) =
     let t = receive (record { state = r; first = receiverArea (r .settings); second = receiverArea (r .settings) }) x .after .state in
     (t .decoded ≡ n) × (t .refusal ≡ refusal)
 Tells (leaves e octets h) = received e octets .state .held ≡ h
+Tells (becomes e octets r) = received e octets .state ≡ r
+Tells (reports e octets a) = receive (received e octets) flag .report ≡ a
 
 -- ---- the parts of the examples
 
@@ -156,9 +162,9 @@ leftOver =
 abbrev inBlock : ℕ → ReceiverEnd
 inBlock n = record { state = withDue n 1 (inFrame otherBlock false 0 (openedReceiver (bits16 0x03))); first = area 2051; second = area 2051 }
 
--- a receiver that holds three octets, without PRE
+-- a receiver that holds three octets, 00 each, without PRE
 abbrev holdsUnasked : ReceiverEnd
-holdsUnasked = record { state = outOfFrame (bits16 0x01) false (holds 3); first = area 2051; second = area 2051 }
+holdsUnasked = record { state = outOfFrame (bits16 0x01) false (holds 3 0x3933); first = area 2051; second = area 2051 }
 
 -- a sender with the low lane, or the high one, on the line: its length and position, data left and zeros due
 abbrev lowOn : ℕ → ℕ → ℕ → ℕ → Sender
@@ -193,10 +199,15 @@ abbrev laneHas : Settings → Lane → ℕ → Sender
 laneHas settings l length = withLane l (record { length = length; position = 0 }) (openedSender settings)
 
 abbrev holding : Settings → ℕ → Receiver
-holding settings n = outOfFrame settings true (holds n)
+holding settings n = outOfFrame settings true (holds n 0x4D53)
 
 abbrev decoding : Settings → ℕ → ℕ → Receiver
 decoding settings n left = withDue left 0 (withDecoded n (inFrame otherBlock false 0 (openedReceiver settings)))
+
+-- a receiver that holds a fragment in its first area, where 31 stands and this octet
+abbrev held31 : Settings → Fragment → ℕ → ReceiverEnd
+held31 settings fragment x =
+    record { state = outOfFrame settings true fragment; first = 0x31 ∷ x ∷ receiverArea settings; second = receiverArea settings }
 
 -- ---- the table
 
@@ -336,8 +347,8 @@ receiverBounds =
     -- the counts, data left and zeros due
     inBoundsR (framed otherBlock false 0 2051 0 0) true
     ∷ inBoundsR (framed otherBlock false 0 2052 0 0) false
-    ∷ inBoundsR (outOfFrame (bits16 0x03) true (holds 2051)) true
-    ∷ inBoundsR (outOfFrame (bits16 0x03) true (holds 2052)) false
+    ∷ inBoundsR (holding (bits16 0x03) 2051) true
+    ∷ inBoundsR (holding (bits16 0x03) 2052) false
     ∷ inBoundsR (framed blockD0 false 0 0 207 2) true
     ∷ inBoundsR (framed blockD0 false 0 0 208 2) false
     ∷ inBoundsR (framed blockD0 false 0 0 207 3) false
@@ -347,14 +358,26 @@ receiverBounds =
     ∷ inBoundsR (framed noBlock false 10 0 0 0) true
     ∷ inBoundsR (framed noBlock false 11 0 0 0) false
     -- with 5 nothing is held, with any other something may be (slip 4)
-    ∷ inBoundsR (withHeld (holds 0) (framed noBlock false 5 0 0 0)) false
-    ∷ inBoundsR (withHeld (holds 1) (framed noBlock false 5 0 0 0)) false
+    ∷ inBoundsR (withHeld (holds 0 0xFFFF) (framed noBlock false 5 0 0 0)) false
+    ∷ inBoundsR (withHeld (holds 1 0x2F8D) (framed noBlock false 5 0 0 0)) false
     ∷ inBoundsR (framed otherBlock true 5 2051 207 2) true
-    ∷ inBoundsR (withHeld (holds 1) (framed noBlock false 6 0 0 0)) true
-    ∷ inBoundsR (withHeld (holds 1) (framed noBlock false 7 0 0 0)) true
-    ∷ inBoundsR (withHeld (holds 1) (framed noBlock true 8 0 0 0)) true
-    ∷ inBoundsR (withHeld (holds 1) (framed noBlock true 9 0 0 0)) true
-    ∷ inBoundsR (withHeld (holds 1) (framed noBlock false 10 0 0 0)) true
+    ∷ inBoundsR (withHeld (holds 1 0x2F8D) (framed noBlock false 6 0 0 0)) true
+    ∷ inBoundsR (withHeld (holds 1 0x2F8D) (framed noBlock false 7 0 0 0)) true
+    ∷ inBoundsR (withHeld (holds 1 0x2F8D) (framed noBlock true 8 0 0 0)) true
+    ∷ inBoundsR (withHeld (holds 1 0x2F8D) (framed noBlock true 9 0 0 0)) true
+    ∷ inBoundsR (withHeld (holds 1 0x2F8D) (framed noBlock false 10 0 0 0)) true
+    -- 21 is remembered as they are (slip 8), and no other above 10
+    ∷ inBoundsR (framed noBlock true 20 0 0 0) false
+    ∷ inBoundsR (framed noBlock true 21 0 0 0) true
+    ∷ inBoundsR (framed noBlock true 22 0 0 0) false
+    ∷ inBoundsR (withHeld (holds 1 0x2F8D) (framed otherBlock false 21 2051 207 2)) true
+    -- a register of the width, whatever is held
+    ∷ inBoundsR (outOfFrame (bits16 0x03) true (holds 1 0)) true
+    ∷ inBoundsR (outOfFrame (bits16 0x03) true (holds 0 0xFFFF)) true
+    ∷ inBoundsR (outOfFrame (bits16 0x03) true (holds 1 0x10000)) false
+    ∷ inBoundsR (outOfFrame (bits32 0x03) true (holds 1 0x10000)) true
+    ∷ inBoundsR (outOfFrame (bits32 0x03) true (holds 1 0xFFFFFFFF)) true
+    ∷ inBoundsR (outOfFrame (bits32 0x03) true (holds 1 0x100000000)) false
     -- outside a frame all else is as fresh
     ∷ inBoundsR (withDecoded 1 (openedReceiver (bits16 0x03))) false
     ∷ inBoundsR (withDue 1 0 (openedReceiver (bits16 0x03))) false
@@ -439,7 +462,7 @@ heldExamples =
     (heldOf 3 false ∷ packetOf true digits ∷ packetOf false digits ∷ []))
     -- a D1 that is refused makes its frame a resumed one all the same: refused 6 it leaves nothing held, and so refused 8
     ∷ leaves holdsUnasked (0xD1 ∷ 0x7E ∷ []) nothingHeld
-    ∷ leaves holdsUnasked (0xD2 ∷ 0x7E ∷ []) (holds 3)
+    ∷ leaves holdsUnasked (0xD2 ∷ 0x7E ∷ []) (holds 3 0x3933)
     ∷ leaves (freshEnd (bits16 0x03)) (0xD1 ∷ 0x01 ∷ 0x7E ∷ []) nothingHeld
     -- Held in a resumed frame is not said to replace what it went on from, but what comes after it is
     ∷ case (reported (bits16 0x03) (broken ++ (0xD1 ∷ 0x05 ∷ 0x34 ∷ 0x7E ∷ 0x05 ∷ 0x31 ∷ 0x7E ∷ [])) (heldOf 3 false ∷ heldOf 4 false ∷ heldOf 1 true ∷ []))
@@ -458,10 +481,39 @@ heldExamples =
     ∷ case (reported (bits16 0x03) (0x05 ∷ 0x31 ∷ 0x7E ∷ 0xD2 ∷ 0x7E ∷ 0xD1 ∷ 0x01 ∷ 0x7E ∷ []) (heldOf 1 false ∷ refusedBy 7 ∷ refusedBy 13 ∷ []))
     -- FF behind a frame's first octet is no restart: behind D1, as a code, as data
     ∷ case (reported (bits16 0x03) (0x05 ∷ 0x31 ∷ 0x7E ∷ 0xD1 ∷ 0xFF ∷ 0x7E ∷ []) (heldOf 1 false ∷ refusedBy 7 ∷ []))
-    ∷ leaves (freshEnd (bits16 0x03)) (0x05 ∷ 0x31 ∷ 0x7E ∷ 0x01 ∷ 0xFF ∷ []) (holds 1)
-    ∷ leaves (freshEnd (bits16 0x03)) (0x05 ∷ 0x31 ∷ 0x7E ∷ 0x03 ∷ 0xFF ∷ []) (holds 1)
+    ∷ leaves (freshEnd (bits16 0x03)) (0x05 ∷ 0x31 ∷ 0x7E ∷ 0x01 ∷ 0xFF ∷ []) (holds 1 0x2F8D)
+    ∷ leaves (freshEnd (bits16 0x03)) (0x05 ∷ 0x31 ∷ 0x7E ∷ 0x03 ∷ 0xFF ∷ []) (holds 1 0x2F8D)
     -- the flag of an empty frame leaves what is held
     ∷ case (reported (bits16 0x03) (broken ++ (0x7E ∷ 0x7E ∷ (resuming ++ (0x7E ∷ [])))) (heldOf 3 false ∷ packetOf false digits ∷ []))
+    ∷ []
+
+-- areas changed behind the receiver's back (document 02, slip 8)
+abbrev pub changedExamples : List Example
+changedExamples =
+    -- Held carries the register of all octets decoded: in a first frame, in one that takes its place, in a resumed one
+    leaves (freshEnd (bits16 0x03)) (0x05 ∷ 0x31 ∷ 0x32 ∷ 0x7E ∷ []) (holds 2 0x4D53)
+    ∷ leaves (freshEnd (bits32 0x03)) (0x05 ∷ 0x31 ∷ 0x32 ∷ 0x7E ∷ []) (holds 2 0xB0ACBB32)
+    ∷ leaves (freshEnd (bits16 0x03)) (0x05 ∷ 0x7E ∷ []) (holds 0 0xFFFF)
+    ∷ leaves (freshEnd (bits16 0x03)) (broken ++ (0x05 ∷ 0x31 ∷ 0x7E ∷ [])) (holds 1 0x2F8D)
+    ∷ leaves (freshEnd (bits16 0x03)) (broken ++ (0xD1 ∷ 0x05 ∷ 0x34 ∷ 0x7E ∷ [])) (holds 4 0x8B13)
+    -- frames that are delivered or refused, and empty ones, leave it
+    ∷ leaves (freshEnd (bits16 0x03)) ((0x05 ∷ 0x31 ∷ 0x32 ∷ 0x7E ∷ []) ++ (whole ++ (0x7E ∷ 0x7E ∷ 0xD2 ∷ 0x7E ∷ []))) (holds 2 0x4D53)
+    -- a held octet is changed: 21, and from the D1 on nothing is held; the areas do not change turns
+    ∷ becomes (held31 (bits16 0x03) (holds 2 0x4D53) 0x33) (0xD1 ∷ []) (inFrame noBlock true 21 (outOfFrame (bits16 0x03) true nothingHeld))
+    ∷ reports (held31 (bits16 0x03) (holds 2 0x4D53) 0x33) (0xD1 ∷ 0x03 ∷ 0x37 ∷ 0x38 ∷ []) (refused 21)
+    ∷ becomes (held31 (bits16 0x03) (holds 2 0x4D53) 0x33) (0xD1 ∷ 0x03 ∷ 0x37 ∷ 0x38 ∷ 0x7E ∷ []) (outOfFrame (bits16 0x03) true nothingHeld)
+    ∷ reports (held31 (bits32 0x03) (holds 2 0xB0ACBB32) 0x33) (0xD1 ∷ []) (refused 21)
+    -- one behind the held octets is: no matter
+    ∷ reports (held31 (bits16 0x03) (holds 1 0x2F8D) 0x33) (0xD1 ∷ 0x01 ∷ []) (refused 13)
+    ∷ reports (held31 (bits16 0x03) (holds 2 0x4D53) 0x32) (0xD1 ∷ 0x01 ∷ []) (refused 13)
+    -- of no octets held too the register is looked at
+    ∷ reports (held31 (bits16 0x03) (holds 0 0x1234) 0x32) (0xD1 ∷ []) (refused 21)
+    ∷ reports (held31 (bits16 0x03) (holds 0 0xFFFF) 0x32) (0xD1 ∷ []) (refused 9)
+    -- 6 comes first, and leaves what is held until the flag
+    ∷ reports (held31 (bits16 0x01) (holds 2 0x4D53) 0x33) (0xD1 ∷ []) (refused 6)
+    ∷ leaves (held31 (bits16 0x01) (holds 2 0x4D53) 0x33) (0xD1 ∷ []) (holds 2 0x4D53)
+    -- D1 as a later octet is no code
+    ∷ reports (held31 (bits16 0x03) (holds 2 0x4D53) 0x33) (0x01 ∷ 0xD1 ∷ []) (refused 7)
     ∷ []
 
 -- the width, 32 bits and another (document 02, slip 1)
@@ -571,7 +623,7 @@ largestExamples =
 abbrev pub examples : List Example
 examples =
     settingsExamples
-    ++ (widthExamples ++ (limitExamples ++ (largestExamples ++ (codeExamples ++ (callExamples ++ (senderBounds ++ (receiverBounds ++ (emptyExamples ++ (frameExamples ++ heldExamples)))))))))
+    ++ (widthExamples ++ (limitExamples ++ (largestExamples ++ (codeExamples ++ (callExamples ++ (senderBounds ++ (receiverBounds ++ (emptyExamples ++ (frameExamples ++ (heldExamples ++ changedExamples))))))))))
 
 -- every example holds
 abbrev pub Examples : Type 0

@@ -1,11 +1,11 @@
--- The receiver's call, one for each octet (docs/READING.md; document 01, "Receiver", and for the bounds "Refusal table"; document 02, slip 4).
+-- The receiver's call, one for each octet (docs/READING.md; document 01, "Receiver", and for the bounds "Refusal table"; document 02, slips 4 and 8).
 use mathlib.Core.Bool.{Bool, true, false, not, _&&_, _||_}
 use mathlib.Core.List.{List, [], _∷_, _++_}
 use Prim.Native.Nat.{ℕ, _+_, _-_}
 use lib.Dec.{leb, ltb, eqb}
 use lib.ListN.{length, take, drop, replicate}
 use Rattle.fcs.specs.Notation.{if_then_else_}
-use Rattle.fcs.specs.CheckSequence.{good}
+use Rattle.fcs.specs.CheckSequence.{ones, register, good}
 use Rattle.cobs.specs.CodeBlocks.{flag, fromLine, meaning}
 use Rattle.cobs.specs.declared.Meaning.{Meaning}
 use Rattle.cobs.specs.declared.Meaning.the-variants.{InTable, NotAgreed, NoCode}
@@ -24,7 +24,8 @@ pub use Rattle.link.specs.declared.receiver.Opening.the-variants.{Opened
 -- Document 01's list, item by item in its order, and the field of `Receiver` (declared in src/receiver.rt) that is the item:
 --   work area                                               turn: false for the first area, true for the second
 --   decoded count                                           decoded
---   held count, or none                                     held: `holds n`, or `nothingHeld`
+--   held count, or none                                     held: `holds n k`, n octets, or `nothingHeld`
+--   check register of the held octets (slip 8)              the k beside the count; where none is held, its start value (`carried`)
 --   data left                                               left
 --   zeros due                                               zeros
 --   last block: none, D0, other                             last: `noBlock`, `blockD0`, `otherBlock`
@@ -143,10 +144,15 @@ inFrame last resumed refusal r =
       settings = r .settings;
     }
 
--- What is held is let go: from now on nothing is. So at an FF that begins a frame (slip 4), at a D1 that is accepted, and at the flag of a
--- resumed frame that is delivered or refused; nowhere else.
+-- What is held is let go: from now on nothing is. So at an FF that begins a frame (slip 4), at a D1 that is accepted or refused 21 (slip 8),
+-- and at the flag of a resumed frame that is delivered or refused; nowhere else.
 abbrev pub letGo : Receiver → Receiver
 letGo r = withHeld nothingHeld r
+
+-- The check register that is carried: it goes with the held count.
+abbrev pub carried : Agreed → Fragment → ℕ
+carried g nothingHeld = ones (g .check)
+carried g (holds n k) = k
 
 -- ---- in bounds ("Refusal table", last paragraph)
 
@@ -160,10 +166,10 @@ isD0 noBlock = false
 isD0 blockD0 = true
 isD0 otherBlock = false
 
--- what is held, by the remembered refusal: with 5 nothing (slip 4), else no more than may be decoded
+-- what is held, by the remembered refusal: with 5 nothing (slip 4), else no more than may be decoded, with any register of the width (slip 8)
 abbrev pub heldOk : Agreed → ℕ → Fragment → Bool
 heldOk g refusal nothingHeld = true
-heldOk g refusal (holds n) = not (eqb refusal 5) && leb n (mostDecoded g)
+heldOk g refusal (holds n k) = not (eqb refusal 5) && leb n (mostDecoded g) && leb k (ones (g .check))
 
 -- outside a frame: as in a fresh receiver, whatever its work area, its settings and what it holds
 abbrev pub freshOk : Receiver → Bool
@@ -175,21 +181,25 @@ lastBlockOk noBlock r = r .resumed
 lastBlockOk blockD0 r = true
 lastBlockOk otherBlock r = ltb 0 (r .left) || ltb 0 (r .decoded)
 
--- all of it, with 207 data octets and 2 zeros at the most, no count above what may be decoded, and only a refusal from 5 to 10 remembered
+-- a refusal that is remembered: from 5 to 10, or 21 (slip 8); 0 for none
+abbrev pub refusalOk : ℕ → Bool
+refusalOk n = eqb n 0 || (leb 5 n && leb n 10 || eqb n 21)
+
+-- all of it, with 207 data octets and 2 zeros at the most, and no count above what may be decoded
 unfoldable pub inBounds : Agreed → Receiver → Bool
 inBounds g r =
     leb (r .decoded) (mostDecoded g)
     && heldOk g (r .refusal) (r .held)
     && leb (r .left) 207
     && leb (r .zeros) 2
-    && (eqb (r .refusal) 0 || leb 5 (r .refusal) && leb (r .refusal) 10)
+    && refusalOk (r .refusal)
     && (if r .framed then not (eqb (r .refusal) 0) || lastBlockOk (r .last) r else freshOk r)
 
 -- ---- an octet that is no flag (steps 1 to 4)
 
 -- What a step uses stands before it, so that they come in the order 4, 3, 2, 1.
 
--- The receiver and its work area: the steps of an octet that is no flag touch no other area.
+-- The receiver and its work area: the steps of an octet that is no flag write into no other area.
 pub record Working : Type 0 where
   pub state : Receiver
   pub area : List ℕ
@@ -245,30 +255,32 @@ step2Code g w c = step2ByMeaning g w c (meaning (g .zxe) c)
 abbrev pub step1Restart : Receiver → Receiver
 step1Restart r = step4Remember 5 (r .resumed) (letGo r)
 
--- Step 1, D1: it makes the frame a resumed one. If PRE is off it is refused 6, and if nothing is held 8. Else what is held is let go, the area
--- that held it becomes the work area, and decoding goes on there, behind its n octets.
+-- Step 1, D1: it makes the frame a resumed one. If PRE is off it is refused 6, and if nothing is held 8. Else what is held is let go. If its n
+-- octets, in the area that does not work (`aside`), no longer give the register that is carried, the frame is refused 21 (slip 8); else that
+-- area becomes the work area, and decoding goes on there, behind them.
 abbrev pub step1Resume : ℕ → Receiver → Receiver
 step1Resume n r = withDue 0 0 (withDecoded n (inFrame noBlock true 0 (withTurn (not (r .turn)) r)))
 
-unfoldable pub step1ResumeHeld : Fragment → Receiver → Receiver
-step1ResumeHeld nothingHeld r = step4Remember 8 true r
-step1ResumeHeld (holds n) r = step1Resume n (letGo r)
+unfoldable pub step1ResumeHeld : Agreed → List ℕ → Fragment → Receiver → Receiver
+step1ResumeHeld g aside nothingHeld r = step4Remember 8 true r
+step1ResumeHeld g aside (holds n k) r =
+    if eqb (register (g .check) (take n aside)) k then step1Resume n (letGo r) else step4Remember 21 true (letGo r)
 
-unfoldable pub step1D1 : Agreed → Receiver → Receiver
-step1D1 g r = if g .pre then step1ResumeHeld (r .held) r else step4Remember 6 true r
+unfoldable pub step1D1 : Agreed → List ℕ → Receiver → Receiver
+step1D1 g aside r = if g .pre then step1ResumeHeld g aside (r .held) r else step4Remember 6 true r
 
 -- Step 1: the first octet of a frame.
-unfoldable pub step1FirstOctet : Agreed → Working → ℕ → Working
-step1FirstOctet g w x =
+unfoldable pub step1FirstOctet : Agreed → List ℕ → Working → ℕ → Working
+step1FirstOctet g aside w x =
     if eqb x 0xFF then record { state = step1Restart (w .state); area = w .area }
-    else if eqb x 0xD1 then record { state = step1D1 g (w .state); area = w .area }
+    else if eqb x 0xD1 then record { state = step1D1 g aside (w .state); area = w .area }
     else step2Code g w x
 
 -- Steps 1 to 4: an octet inside a frame, 00 turned into 7E already. With a refusal remembered it is skipped (step 4).
-unfoldable pub steps1To4 : Agreed → Working → ℕ → Working
-steps1To4 g w x =
+unfoldable pub steps1To4 : Agreed → List ℕ → Working → ℕ → Working
+steps1To4 g aside w x =
     if not (eqb (w .state .refusal) 0) then w
-    else if not (w .state .framed) then step1FirstOctet g w x
+    else if not (w .state .framed) then step1FirstOctet g aside w x
     else if ltb 0 (w .state .left) then step3Data g w x
     else step2Code g w x
 
@@ -287,21 +299,21 @@ abbrev pub step5End : Answer → Receiver → Ended
 step5End a r = record { report = a; state = frameOver (if r .resumed then letGo r else r) }
 
 -- Held: how many octets are decoded, and whether this frame, if not a resumed one, took an older fragment's place. The two areas change places:
--- the work area holds from now on.
+-- the work area holds from now on, and the register of its decoded octets is carried (slip 8).
 abbrev pub isHeld : Fragment → Bool
 isHeld nothingHeld = false
-isHeld (holds n) = true
+isHeld (holds n k) = true
 
-abbrev pub step5Hold : Receiver → Ended
-step5Hold r =
+abbrev pub step5Hold : Agreed → Receiver → List ℕ → Ended
+step5Hold g r area =
     record {
       report = held (r .decoded) (not (r .resumed) && isHeld (r .held));
-      state = outOfFrame (r .settings) (not (r .turn)) (holds (r .decoded));
+      state = outOfFrame (r .settings) (not (r .turn)) (holds (r .decoded) (register (g .check) (take (r .decoded) area)));
     }
 
 -- inside a block: Held where PRE is on, else refused 11
-abbrev pub step5InBlock : Agreed → Receiver → Ended
-step5InBlock g r = if g .pre then step5Hold r else step5End (refused 11) r
+abbrev pub step5InBlock : Agreed → Receiver → List ℕ → Ended
+step5InBlock g r area = if g .pre then step5Hold g r area else step5End (refused 11) r
 
 -- Without the phantom n octets are left. Too few for a frame (under 4 with 16 bits) are refused 13, and those with a register that is not good
 -- 14; else they are a packet and its FCS.
@@ -317,7 +329,7 @@ unfoldable pub step5Flag : Agreed → Receiver → List ℕ → Ended
 step5Flag g r area =
     if not (eqb (r .refusal) 0) then step5End (refused (r .refusal)) r
     else if isNoBlock (r .last) then step5End (refused 9) r
-    else if ltb 0 (r .left) then step5InBlock g r
+    else if ltb 0 (r .left) then step5InBlock g r area
     else if isD0 (r .last) then step5End (refused 12) r
     else step5WithoutPhantom g r area (r .decoded - 1)
 
@@ -340,6 +352,10 @@ areaOf turn e = if turn then e .second else e .first
 -- the receiver with its work area,
 abbrev pub work : ReceiverEnd → Working
 work e = record { state = e .state; area = areaOf (e .state .turn) e }
+
+-- the area that does not work, and holds what is held,
+abbrev pub aside : ReceiverEnd → List ℕ
+aside e = areaOf (not (e .state .turn)) e
 
 -- and the work area put back where it was taken from
 abbrev pub putBack : ReceiverEnd → Working → ReceiverEnd
@@ -367,4 +383,4 @@ receive e x =
     else if ltb (length (e .first)) (mostDecoded g) || ltb (length (e .second)) (mostDecoded g) then record { report = refused 2; after = e }
     else if not (inBounds g (e .state)) then record { report = refused 3; after = e }
     else if eqb x flag then flagged e (atFlag g (e .state) (work e .area))
-    else record { report = quiet; after = putBack e (steps1To4 g (work e) (fromLine x)) }
+    else record { report = quiet; after = putBack e (steps1To4 g (aside e) (work e) (fromLine x)) }

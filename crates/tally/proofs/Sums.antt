@@ -1,20 +1,21 @@
 -- Each count is the number of reports of its kind, and below the largest they add up.
-use mathlib.Core.Bool.{true, false, _&&_}
+use mathlib.Core.Bool.{Bool, true, false, _&&_, _||_}
 use mathlib.Core.List.{List, [], _∷_, sum}
+use mathlib.Core.Logic.{_⊎_, ⊎-elim}
 use mathlib.Core.Path.{_≡_, refl, sym, _∙_}
 use Prim.Native.Nat.{ℕ, zero, suc, _+_, _-_, _≤_, _<_, min}
 use native.Mathlib.Nat.{le-of-suc-le-suc}
 use native.Mathlib.Omega.{arith}
-use borrow.Author.Tests.{ltb-true, ltb-false, leb-true, eqb-true, le-leb, lt-ltb, eq-eqb}
+use borrow.Author.Tests.{ltb-true, ltb-false, leb-true, leb-false, eqb-true, le-leb, lt-leb, lt-ltb, eq-eqb, ne-eqb}
 use lib.Dec.{leb, ltb, eqb}
 use lib.ListN.{length, getD, set, length-set, getD-replicate}
 use lib.Seq.{getD-set-same, getD-set-other}
 use Rattle.fcs.specs.Notation.{if_then_else_}
 use Rattle.cobs.proofs.Tests.{branch, decide, and-left, and-right}
-use Rattle.link.proofs.Tests.{and-intro, true-false, false-true}
+use Rattle.link.proofs.Tests.{true-false, false-true, or-cases}
 use Rattle.link.specs.Answers.{Answer, done, octet, idle, quiet, packet, held, refused}
-use Rattle.tally.specs.Counts.{Tally, places, largestCount, emptyTally, place, countAt, raised, note}
-use Rattle.tally.specs.Sums.{total, isCounted, ofKind, Fits, LargestOf64Bits, EachCount, AddUp, FromEmpty}
+use Rattle.tally.specs.Counts.{Tally, places, largestCount, emptyTally, place, ofFrame, refusalAt, countAt, raised, note}
+use Rattle.tally.specs.Sums.{total, isCounted, ofKind, FramesCounted, NamedRightly, Fits, LargestOf64Bits, EachCount, AddUp, FromEmpty}
 
 -- ---- a report is counted at the place of its kind, and at no other
 
@@ -27,9 +28,14 @@ at-place p h quiet e = false-true e
 at-place p h (packet second n) e = sym (eqb-true p 0 e)
 at-place p h (held n replaced) e = sym (eqb-true p (if replaced then 2 else 1) e)
 at-place p h (refused n) e =
-    let l = leb-true 3 p (and-left (leb 3 p) (eqb n (p + 2)) e) in
-    let q = eqb-true n (p + 2) (and-right (leb 3 p) (eqb n (p + 2)) e) in
-    rw (le-leb 5 n (omega arith), le-leb n 14 (omega arith)) (omega arith)
+    or-cases (leb 3 p && leb p 12 && eqb n (p + 2)) (eqb p 13 && eqb n 21) e
+    (λ k.
+    let both = and-left (leb 3 p && leb p 12) (eqb n (p + 2)) k in
+    let l = leb-true 3 p (and-left (leb 3 p) (leb p 12) both) in
+    let m = leb-true p 12 (and-right (leb 3 p) (leb p 12) both) in
+    let is = eqb-true n (p + 2) (and-right (leb 3 p && leb p 12) (eqb n (p + 2)) k) in
+    rw (le-leb 5 n (omega arith), le-leb n 14 (omega arith)) (omega arith))
+    (λ k. rw (eqb-true p 13 (and-left (eqb p 13) (eqb n 21) k), eqb-true n 21 (and-right (eqb p 13) (eqb n 21) k)))
 
 pub only-there : (p : ℕ) → p < places → (r : Answer) → place r ≡ p → ofKind p r ≡ true
 unfolding place
@@ -41,8 +47,11 @@ only-there p h (packet second n) e = eq-eqb p 0 (sym e)
 only-there p h (held n replaced) e = eq-eqb p (if replaced then 2 else 1) (sym e)
 only-there p h (refused n) e =
     branch (λ q. q ≡ p → ofKind p (refused n) ≡ true) (leb 5 n && leb n 14)
-    (λ t q. let l = leb-true 5 n (and-left (leb 5 n) (leb n 14) t) in and-intro (leb 3 p) (eqb n (p + 2)) (le-leb 3 p (omega arith)) (eq-eqb n (p + 2) (omega arith)))
-    (λ t q. absurd (omega arith))
+    (λ t q.
+    let l = leb-true 5 n (and-left (leb 5 n) (leb n 14) t) in
+    let u = leb-true n 14 (and-right (leb 5 n) (leb n 14) t) in
+    rw (le-leb 3 p (omega arith), le-leb p 12 (omega arith), eq-eqb n (p + 2) (omega arith)))
+    (λ _. branch (λ q. q ≡ p → ofKind p (refused n) ≡ true) (eqb n 21) (λ t q. rw (sym q) t) (λ _ q. absurd (omega arith)))
     e
 
 pub has-place : (r : Answer) → isCounted r ≡ ltb (place r) places
@@ -55,9 +64,28 @@ has-place (packet second n) = refl
 has-place (held n true) = refl
 has-place (held n false) = refl
 has-place (refused n) =
-    branch (λ q. (leb 5 n && leb n 14) ≡ ltb q places) (leb 5 n && leb n 14)
-    (λ t. let u = leb-true n 14 (and-right (leb 5 n) (leb n 14) t) in t ∙ sym (lt-ltb (3 + (n - 5)) places (omega arith)))
-    (λ t. t)
+    branch (λ q. ofFrame n ≡ ltb q places) (leb 5 n && leb n 14)
+    (λ t. let u = leb-true n 14 (and-right (leb 5 n) (leb n 14) t) in rw (t, lt-ltb (3 + (n - 5)) places (omega arith)))
+    (λ t. branch (λ q. ofFrame n ≡ ltb q places) (eqb n 21) (λ u. rw (t, u)) (λ u. rw (t, u)))
+
+or-false : (b : Bool) → (b || false) ≡ b
+or-false true = refl
+or-false false = refl
+
+pub named-rightly : NamedRightly
+named-rightly p n l h =
+    decide (leb p 12)
+    (λ k. let m = leb-true p 12 k in rw (le-leb 3 p l, k, ne-eqb p 13 (λ q. omega arith)) (or-false (eqb n (p + 2))))
+    (λ k. let last : p ≡ 13 = omega (arith, leb-false p 12 k) in rw last)
+
+pub of-frame : (n : ℕ) → 5 ≤ n → (n ≤ 14) ⊎ (n ≡ 21) → ofFrame n ≡ true
+of-frame n low = ⊎-elim (λ high. rw (le-leb 5 n low, le-leb n 14 high)) (λ is. rw is)
+
+pub not-of-frame : (n : ℕ) → n < 5 → ofFrame n ≡ false
+not-of-frame n low = rw (lt-leb 5 n low) (ne-eqb n 21 (λ q. omega arith))
+
+pub frames-counted : FramesCounted
+frames-counted = record { frames = of-frame; calls = not-of-frame }
 
 -- ---- one report
 
@@ -85,7 +113,7 @@ module _ (t : Tally) (fits : Fits t) (r : Answer) where
   count-note : (p : ℕ) → p < places → countAt (note t r) p ≡ min largestCount (countAt t p + (if ofKind p r then 1 else 0))
   unfolding note
   count-note p h =
-      let l = fits .thirteen in
+      let l = fits .fourteen in
       let m = fits .small p h in
       branch (λ x. countAt (note t r) p ≡ min largestCount (countAt t p + x)) (ofKind p r)
       (λ e. rw (at-place p h r e, lt-ltb p places h) (getD-set-same (t .counts) p (raised (countAt t p)) 0 (omega arith) ∙ raised-is (countAt t p) m))
@@ -97,7 +125,7 @@ module _ (t : Tally) (fits : Fits t) (r : Answer) where
   unfolding note
   fits-note =
       record {
-        thirteen = branch (λ (u : Tally). length (u .counts) ≡ places) (ltb (place r) places) (λ _. simp length-set (fits .thirteen)) (λ _. fits .thirteen);
+        fourteen = branch (λ (u : Tally). length (u .counts) ≡ places) (ltb (place r) places) (λ _. simp length-set (fits .fourteen)) (λ _. fits .fourteen);
         small = λ p h. omega (arith, count-note p h);
       }
 
@@ -107,7 +135,7 @@ module _ (t : Tally) (fits : Fits t) (r : Answer) where
   total-note low =
       decide (ltb (place r) places)
       (λ e. let h = ltb-true (place r) places e in
-      let l = fits .thirteen in
+      let l = fits .fourteen in
       simp (has-place r, e, lt-ltb _ _ (low h)) (sum-set (t .counts) (place r) (omega arith)))
       (λ e. simp (has-place r, e) (omega arith))
 
@@ -132,7 +160,7 @@ none-yet : (p : ℕ) → p < places → countAt emptyTally p ≡ 0
 none-yet p h = getD-replicate places p 0 0 h
 
 fits-empty : Fits emptyTally
-fits-empty = record { thirteen = refl; small = λ p h. omega (arith, none-yet p h) }
+fits-empty = record { fourteen = refl; small = λ p h. omega (arith, none-yet p h) }
 
 pub from-empty : FromEmpty
 unfolding sum

@@ -1,15 +1,15 @@
--- The tally (document 01, "Display, tally, capture program").
-use mathlib.Core.Bool.{_&&_}
+-- The tally (document 01, "Display, tally, capture program"; document 02, slip 8).
+use mathlib.Core.Bool.{Bool, _&&_, _||_}
 use Prim.Native.Nat.{ℕ, _+_, _-_}
-use lib.Dec.{leb, ltb}
+use lib.Dec.{leb, ltb, eqb}
 use lib.ListN.{getD, set, replicate}
 use Rattle.fcs.specs.Notation.{if_then_else_}
 use Rattle.link.specs.Answers.{Answer, done, octet, idle, quiet, packet, held, refused}
 pub use Rattle.tally.specs.declared.Tally.{Tally}
 
--- thirteen counts
+-- fourteen counts: document 01 has thirteen, and slip 8 one more
 abbrev pub places : ℕ
-places = 13
+places = 14
 
 -- the largest count of 64 bits
 abbrev pub largestCount : ℕ
@@ -18,17 +18,25 @@ largestCount = 0xFFFF_FFFF_FFFF_FFFF
 abbrev pub emptyTally : Tally
 emptyTally = record { counts = replicate places 0 }
 
--- Where a report is counted, in document 01's order: packets at 0, held at 1, held with replacement at 2, refusal n (5 to 14) at n - 2. At 13 there is
--- no count.
+-- Where a report is counted, in document 01's order: packets at 0, held at 1, held with replacement at 2, then the refusals of frames in order of
+-- their numbers, 5 to 14 at 3 to 12 and 21 at 13. At 14 there is no count.
 -- (An answer of the sender is no report.)
 unfoldable pub place : Answer → ℕ
-place done = 13
-place (octet x) = 13
-place idle = 13
-place quiet = 13
+place done = 14
+place (octet x) = 14
+place idle = 14
+place quiet = 14
 place (packet inSecond n) = 0
 place (held n replaced) = if replaced then 2 else 1
-place (refused n) = if leb 5 n && leb n 14 then 3 + (n - 5) else 13
+place (refused n) = if leb 5 n && leb n 14 then 3 + (n - 5) else if eqb n 21 then 13 else 14
+
+-- the refusals of frames
+abbrev pub ofFrame : ℕ → Bool
+ofFrame n = leb 5 n && leb n 14 || eqb n 21
+
+-- the refusal that is counted at a place, and 0 where none is
+abbrev pub refusalAt : ℕ → ℕ
+refusalAt p = if leb 3 p && leb p 12 then p + 2 else if eqb p 13 then 21 else 0
 
 -- the count at a place
 abbrev pub countAt : Tally → ℕ → ℕ

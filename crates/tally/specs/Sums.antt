@@ -1,14 +1,15 @@
 -- What the counts come to (document 01, "Display, tally, capture program"), proved in proofs/Sums.antt. What is counted is said here apart
 -- from `place`, so that a place given to the wrong reports would not pass.
-use mathlib.Core.Bool.{Bool, true, false, _&&_}
+use mathlib.Core.Bool.{Bool, true, false, _&&_, _||_}
 use mathlib.Core.List.{List, [], _∷_, foldl, sum}
+use mathlib.Core.Logic.{_⊎_}
 use mathlib.Core.Path.{_≡_}
 use Prim.Native.Nat.{ℕ, _+_, _^_, _≤_, _<_, min}
 use lib.Dec.{leb, eqb}
 use lib.ListN.{length}
 use Rattle.fcs.specs.Notation.{if_then_else_}
 use Rattle.link.specs.Answers.{Answer, done, octet, idle, quiet, packet, held, refused}
-use Rattle.tally.specs.Counts.{Tally, places, largestCount, emptyTally, countAt, note}
+use Rattle.tally.specs.Counts.{Tally, places, largestCount, emptyTally, ofFrame, refusalAt, countAt, note}
 
 -- reports noted, one after another
 abbrev pub noted : Tally → List Answer → Tally
@@ -23,7 +24,7 @@ abbrev pub numberOf : (Answer → Bool) → List Answer → ℕ
 numberOf test [] = 0
 numberOf test (r ∷ rs) = (if test r then 1 else 0) + numberOf test rs
 
--- The reports that raise a count: all but Quiet and the numbers outside 5 to 14.
+-- The reports that raise a count: all but Quiet and the refusals of calls, any number but 5 to 14 and 21.
 abbrev pub isCounted : Answer → Bool
 isCounted done = false
 isCounted (octet x) = false
@@ -31,10 +32,10 @@ isCounted idle = false
 isCounted quiet = false
 isCounted (packet inSecond n) = true
 isCounted (held n replaced) = true
-isCounted (refused n) = leb 5 n && leb n 14
+isCounted (refused n) = ofFrame n
 
 -- Whether a report is of the kind that is counted at place p: packets at 0, held with nothing replaced at 1, held with replacement at 2,
--- refusals 5 to 14 at 3 to 12.
+-- refusals 5 to 14 at 3 to 12, and 21 at 13.
 abbrev pub ofKind : ℕ → Answer → Bool
 ofKind p done = false
 ofKind p (octet x) = false
@@ -42,11 +43,20 @@ ofKind p idle = false
 ofKind p quiet = false
 ofKind p (packet inSecond n) = eqb p 0
 ofKind p (held n replaced) = eqb p (if replaced then 2 else 1)
-ofKind p (refused n) = leb 3 p && eqb n (p + 2)
+ofKind p (refused n) = leb 3 p && leb p 12 && eqb n (p + 2) || eqb p 13 && eqb n 21
 
--- a tally that the code can hold: thirteen counts, of 64 bits
+-- So every refusal of a frame is counted, and none of a call.
+pub record FramesCounted : Type 0 where
+  pub frames : (n : ℕ) → 5 ≤ n → (n ≤ 14) ⊎ (n ≡ 21) → isCounted (refused n) ≡ true
+  pub calls : (n : ℕ) → n < 5 → isCounted (refused n) ≡ false
+
+-- The refusal that a place is named by is the one that is counted there.
+abbrev pub NamedRightly : Type 0
+NamedRightly = (p n : ℕ) → 3 ≤ p → p < places → ofKind p (refused n) ≡ eqb n (refusalAt p)
+
+-- a tally that the code can hold: fourteen counts, of 64 bits
 pub record Fits (t : Tally) : Type 0 where
-  pub thirteen : length (t .counts) ≡ places
+  pub fourteen : length (t .counts) ≡ places
   pub small : (p : ℕ) → p < places → countAt t p ≤ largestCount
 
 -- The largest count is the largest number of 64 bits.

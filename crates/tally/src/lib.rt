@@ -1,9 +1,9 @@
-// The display of a reported packet, and the tally of reports (document 01, "Display, tally, capture program").
+// The display of a reported packet, and the tally of reports (document 01, "Display, tally, capture program"; document 02, slip 8).
 ghost use mathlib.Core.Path.{_≡_};
-ghost use Rattle.link.specs.Answers.{reportAnswer};
+ghost use Rattle.link.specs.Answers.{refused, reportAnswer};
 ghost use Rattle.tally.specs.Display.{front, shown, ShowsThePacket, WithinTheArea, BeyondTheArea};
-ghost use Rattle.tally.specs.Counts.{emptyTally, place, raised, note};
-ghost use Rattle.tally.specs.Sums.{LargestOf64Bits, EachCount, AddUp, FromEmpty};
+ghost use Rattle.tally.specs.Counts.{emptyTally, place, ofFrame, refusalAt, raised, note};
+ghost use Rattle.tally.specs.Sums.{FramesCounted, NamedRightly, LargestOf64Bits, EachCount, AddUp, FromEmpty};
 use link::receiver::Report;
 
 // ---- display
@@ -34,22 +34,27 @@ fn front(n: u16, area: &[u8]) -> &[u8]
 
 // ---- tally
 
-// The places of the counts: packets, held with nothing replaced, held with replacement, and from REFUSALS on refusals 5 to 14 in order.
-pub const PACKETS: usize = 0;
+// The places of the counts: packets, held with nothing replaced, held with replacement, from REFUSALS on refusals 5 to 14 in order, and 21.
+const PACKETS: usize = 0;
 
-pub const HELD: usize = 1;
+const HELD: usize = 1;
 
-pub const HELD_REPLACING: usize = 2;
+const HELD_REPLACING: usize = 2;
 
-pub const REFUSALS: usize = 3;
+const REFUSALS: usize = 3;
+
+const CHANGED_PLACE: usize = 13;
 
 // How many counts there are. As a place it means that a report has no count.
-pub const COUNTS: usize = 13;
+pub const COUNTS: usize = 14;
 
-// The refusals that are counted: those of frames.
-pub const FIRST_REFUSAL: u8 = 5;
+// The refusals that are counted, those of frames: 5 to 14,
+const FIRST_REFUSAL: u8 = 5;
 
-pub const LAST_REFUSAL: u8 = 14;
+const LAST_REFUSAL: u8 = 14;
+
+// and 21, of what was held and is changed.
+const CHANGED: u8 = 21;
 
 // A count at its largest stays.
 pub const LARGEST: u64 = 0xffff_ffff_ffff_ffff;
@@ -78,16 +83,47 @@ fn place(r: Report) -> usize
             length: _,
         } => PACKETS,
         Report::Held { count: _, replaced } => { if replaced { HELD_REPLACING } else { HELD } }
-        Report::Refused(n) => {
-            if n < FIRST_REFUSAL {
-                return COUNTS;
-            }
-            if LAST_REFUSAL < n {
-                return COUNTS;
-            }
-            REFUSALS + (n - FIRST_REFUSAL) as usize
-        }
+        Report::Refused(n) => refusal_place(n),
     }
+}
+
+// Where a refusal is.
+fn refusal_place(n: u8) -> usize
+    ensures { λ p. ⌜ p ≡ place (refused n) ⌝ }
+{
+    if n < FIRST_REFUSAL {
+        return COUNTS;
+    }
+    if n <= LAST_REFUSAL {
+        return REFUSALS + (n - FIRST_REFUSAL) as usize;
+    }
+    if n == CHANGED {
+        return CHANGED_PLACE;
+    }
+    COUNTS
+}
+
+// Whether a refusal is one of a frame; any other is one of a call.
+pub fn of_frame(n: u8) -> bool
+    ensures { λ r. ⌜ r ≡ ofFrame n ⌝ }
+{
+    (FIRST_REFUSAL <= n) & (n <= LAST_REFUSAL) | (n == CHANGED)
+}
+
+// The refusal that is counted at a place; 0 where none is.
+pub fn refusal_at(place: usize) -> u8
+    ensures { λ n. ⌜ n ≡ refusalAt place ⌝ }
+{
+    if place < REFUSALS {
+        return 0;
+    }
+    if place < CHANGED_PLACE {
+        return (place - REFUSALS) as u8 + FIRST_REFUSAL;
+    }
+    if place == CHANGED_PLACE {
+        return CHANGED;
+    }
+    0
 }
 
 // A count raised by one.
@@ -126,5 +162,5 @@ pub fn note_in(t: &mut Tally, r: Report)
 
 // What is claimed of this crate: each theorem that docs/DEMANDS.md names.
 pub fn claims()
-    ensures { λ _. ⌜ ShowsThePacket × WithinTheArea × BeyondTheArea × LargestOf64Bits × EachCount × AddUp × FromEmpty ⌝ }
+    ensures { λ _. ⌜ ShowsThePacket × WithinTheArea × BeyondTheArea × FramesCounted × NamedRightly × LargestOf64Bits × EachCount × AddUp × FromEmpty ⌝ }
 {}

@@ -4,7 +4,6 @@ use mathlib.Core.Option.{some}
 use mathlib.Core.Path.{_≡_, refl, sym, ap, subst, _∙_}
 use Prim.Native.Nat.{ℕ, _<_}
 use native.Mathlib.Omega.{arith}
-use borrow.Author.Tests.{le-leb, lt-leb}
 use lib.ListN.{length, take, length-take}
 use Rattle.link.specs.Agreed.{agreed}
 use Rattle.link.specs.Answers.{Answer, done, octet, idle, quiet, packet, held, refused}
@@ -15,7 +14,7 @@ use Rattle.link.proofs.Within.{within}
 use Rattle.link.proofs.EachCall.{refused-changes-nothing}
 use Rattle.tally.specs.Display.{shown}
 use Rattle.tally.proofs.Packet.{shows-the-packet}
-use Rattle.tally.proofs.Sums.{note-none}
+use Rattle.tally.proofs.Sums.{of-frame, not-of-frame, note-none}
 use Rattle.lines.specs.Lines.{packetLine}
 use Rattle.lines.proofs.Reports.{of-packet, of-held, of-refusal}
 use Rattle.transcript.specs.Transcript.{lineOf}
@@ -51,7 +50,7 @@ module _ (e : ReceiverEnd) (x : ℕ) where
       record {
         ofPacket = of-packets (h .report) refl;
         ofHeld = λ n replaced r. rw r (of-held n replaced []);
-        ofRefusal = λ n r low high. rw (r, le-leb 5 n low, le-leb n 14 high) (of-refusal n []);
+        ofRefusal = λ n r low high. rw (r, of-frame n low high) (of-refusal n []);
         ofQuiet = λ r. rw r;
       }
 
@@ -61,8 +60,8 @@ module _ (e : ReceiverEnd) (x : ℕ) where
   unfolding lineOf
   refused-call n r l =
       record {
-        line = rw (r, lt-leb 5 n l);
-        counts = λ t. rw r (note-none t (refused n) (rw (lt-leb 5 n l)));
+        line = rw (r, not-of-frame n l);
+        counts = λ t. rw r (note-none t (refused n) (not-of-frame n l));
         after = refused-changes-nothing .receive e x n l r;
       }
 

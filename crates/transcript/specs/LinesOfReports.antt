@@ -1,6 +1,7 @@
 -- Which line each call of the receiver has (document 01, "Display, tally, capture program"). Each is proved in proofs/LinesOfReports.antt.
 use mathlib.Core.Bool.{Bool}
 use mathlib.Core.List.{List, []}
+use mathlib.Core.Logic.{_⊎_}
 use mathlib.Core.Option.{some}
 use mathlib.Core.Path.{_≡_}
 use Prim.Native.Nat.{ℕ, _≤_, _<_}
@@ -16,12 +17,12 @@ use Rattle.transcript.specs.Transcript.{lineOf}
 -- The line of a call.
 --   ofPacket: where its report stands for the packet p, in the sense of the demands, P, the length of p, and the octets of p
 --   ofHeld: H, the count, and whether an older fragment was replaced
---   ofRefusal: R and the number, which is one of a frame, 5 to 14
+--   ofRefusal: R and the number, which is one of a frame, 5 to 14 or 21
 --   ofQuiet: none
 pub record LineOfCall (h : Receive) : Type 0 where
   pub ofPacket : (p : List ℕ) → packetIn h ≡ some p → lineOf h ≡ packetLine (length p) p
   pub ofHeld : (n : ℕ) (replaced : Bool) → h .report ≡ held n replaced → lineOf h ≡ heldLine n replaced
-  pub ofRefusal : (n : ℕ) → h .report ≡ refused n → 5 ≤ n → n ≤ 14 → lineOf h ≡ refusedLine n
+  pub ofRefusal : (n : ℕ) → h .report ≡ refused n → 5 ≤ n → (n ≤ 14) ⊎ (n ≡ 21) → lineOf h ≡ refusedLine n
   pub ofQuiet : h .report ≡ quiet → lineOf h ≡ []
 
 -- of every receiver, with any areas, and every octet

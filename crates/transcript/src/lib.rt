@@ -55,12 +55,7 @@ fn is_report(given: Report) -> bool
         Report::Quiet => false,
         Report::Packet { .. } => true,
         Report::Held { .. } => true,
-        Report::Refused(n) => {
-            if n < tally::FIRST_REFUSAL {
-                return false;
-            }
-            n <= tally::LAST_REFUSAL
-        }
+        Report::Refused(n) => tally::of_frame(n),
     }
 }
 

@@ -10,6 +10,7 @@ use Rattle.link.proofs.Urgent.{urgent-first}
 use Rattle.link.proofs.Delivery.{packet-uninterrupted, nothing-lost, delivery}
 use Rattle.link.proofs.AreasAside.{areas-aside}
 use Rattle.link.proofs.Restart.{restart}
+use Rattle.link.proofs.Changed.{areas-changed}
 use Rattle.link.proofs.Marked.{marked, at-work}
 use Rattle.link.proofs.Examples.{other-bits, agreed-lengths, packet-lengths, each-example}
 use Rattle.link.proofs.claims.Statement.{statement}
@@ -22,7 +23,7 @@ returns c = (
     (keep-bounds, never-out-of-bounds),
     (
       (idle-if-empty, sent-uninterrupted, rest-uninterrupted, packet-uninterrupted, emptied, urgent-first),
-      ((λ t v. (sound-line t v, nothing-lost t v, delivery t v)), ((any-blocks, demand3), ((areas-aside, restart), ((marked, at-work), (other-bits, agreed-lengths, packet-lengths, each-example))))),
+      ((λ t v. (sound-line t v, nothing-lost t v, delivery t v)), ((any-blocks, demand3), ((areas-aside, restart, areas-changed), ((marked, at-work), (other-bits, agreed-lengths, packet-lengths, each-example))))),
     ),
   ),
 )

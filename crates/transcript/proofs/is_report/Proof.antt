@@ -1,6 +1,5 @@
 -- `transcript::is_report`.
 use borrow.Author.Needs.{needs}
-use borrow.Author.Tests.{le-leb, lt-leb}
 use Rattle.transcript.proofs.is_report.Statement.{statement}
 use Rattle.transcript.proofs.is_report.Tie as tie
 
@@ -16,9 +15,11 @@ enum-told-3 c = search needs
 enum-known-given : tie.Need-enum-known-given
 enum-known-given c = search needs
 
--- a refusal under 5
+of-frame-requires : tie.Need-of-frame-requires
+of-frame-requires c κs = search needs
+
 returns : tie.Need-returns
-returns c = simp (c .before .before .given .given .1, lt-leb _ _ (c .if1 .taken))
+returns c = search needs
 
 returns-2 : tie.Need-returns-2
 returns-2 c = search needs
@@ -26,23 +27,10 @@ returns-2 c = search needs
 returns-3 : tie.Need-returns-3
 returns-3 c = search needs
 
+-- a refusal
 returns-4 : tie.Need-returns-4
-returns-4 c = search needs
-
--- any other
-returns-5 : tie.Need-returns-5
-returns-5 c = simp (c .before .before .given .given .1, le-leb _ _ (c .if1 .left))
+returns-4 c = rw (c .before .before .given .given .1) (c .of-frame .ensures)
 
 pub is-report-spec : {M : Type 1} → statement M
 is-report-spec =
-    tie.close
-    (tie.spec
-    enum-told
-    enum-told-2
-    enum-told-3
-    enum-known-given
-    returns
-    returns-2
-    returns-3
-    returns-4
-    returns-5)
+    tie.close (tie.spec enum-told enum-told-2 enum-told-3 enum-known-given of-frame-requires returns returns-2 returns-3 returns-4)

@@ -7,6 +7,9 @@ use Rattle.kutarehopa.proofs.receiver.unpack.Tie as tie
 settings-in-requires : tie.Need-settings-in-requires
 settings-in-requires c κs = search needs
 
+register-in-requires : tie.Need-register-in-requires
+register-in-requires c κs = search needs
+
 element-copy-out-fragment : tie.Need-element-copy-out-fragment
 element-copy-out-fragment c = search needs
 
@@ -28,23 +31,23 @@ element-copy-out-last-block c = search needs
 last-block-requires : tie.Need-last-block-requires
 last-block-requires c κs = search needs
 
-element-copy-out-t14 : tie.Need-element-copy-out-t14
-element-copy-out-t14 c = search needs
+element-copy-out-t15 : tie.Need-element-copy-out-t15
+element-copy-out-t15 c = search needs
 
-element-copy-out-t7 : tie.Need-element-copy-out-t7
-element-copy-out-t7 c = search needs
+element-copy-out-t8 : tie.Need-element-copy-out-t8
+element-copy-out-t8 c = search needs
 
-element-copy-out-t11 : tie.Need-element-copy-out-t11
-element-copy-out-t11 c = search needs
+element-copy-out-t12 : tie.Need-element-copy-out-t12
+element-copy-out-t12 c = search needs
 
-element-copy-out-t26 : tie.Need-element-copy-out-t26
-element-copy-out-t26 c = search needs
+element-copy-out-t27 : tie.Need-element-copy-out-t27
+element-copy-out-t27 c = search needs
 
-element-copy-out-t30 : tie.Need-element-copy-out-t30
-element-copy-out-t30 c = search needs
+element-copy-out-t31 : tie.Need-element-copy-out-t31
+element-copy-out-t31 c = search needs
 
-element-copy-out-t34 : tie.Need-element-copy-out-t34
-element-copy-out-t34 c = search needs
+element-copy-out-t35 : tie.Need-element-copy-out-t35
+element-copy-out-t35 c = search needs
 
 element-copy-out-number-3 : tie.Need-element-copy-out-number-3
 element-copy-out-number-3 c = search needs
@@ -60,13 +63,22 @@ unfolding receiverIn
 returns c =
     let l = c .before .before .before .before .before .before .before .before .before in
     let f = l .before .before in
-    rw (c .number2 .ensures, l .last-block .ensures, f .fragment .ensures, f .before .number .ensures, f .before .before .before .before .before .settings-in .ensures)
+    let i = f .before .before .before .before .before in
+    rw (
+      c .number2 .ensures,
+      l .last-block .ensures,
+      f .fragment .ensures,
+      f .before .number .ensures,
+      i .register-in .ensures,
+      i .before .settings-in .ensures,
+    )
 
 pub unpack-spec : {M : Type 1} → statement M
 unpack-spec =
     tie.close
     (tie.spec
     settings-in-requires
+    register-in-requires
     element-copy-out-fragment
     element-copy-out-number
     element-copy-out-number-2
@@ -74,12 +86,12 @@ unpack-spec =
     fragment-requires
     element-copy-out-last-block
     last-block-requires
-    element-copy-out-t14
-    element-copy-out-t7
-    element-copy-out-t11
-    element-copy-out-t26
-    element-copy-out-t30
-    element-copy-out-t34
+    element-copy-out-t15
+    element-copy-out-t8
+    element-copy-out-t12
+    element-copy-out-t27
+    element-copy-out-t31
+    element-copy-out-t35
     element-copy-out-number-3
     element-copy-out-number-4
     number-requires-2

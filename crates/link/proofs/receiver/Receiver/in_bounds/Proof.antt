@@ -2,10 +2,10 @@
 use mathlib.Core.Path.{_≡_, sym, _∙_}
 use Prim.Native.Nat.{_≤_}
 use borrow.Author.Needs.{needs}
-use borrow.Author.Tests.{not-true, not-false, ne-eqb, le-leb, lt-leb}
+use borrow.Author.Tests.{not-true, not-false, le-leb, lt-leb}
 use Rattle.link.specs.Agreed.{agreed, mostDecoded}
 use Rattle.link.specs.Receiver.{Receiver, inBounds}
-use Rattle.link.proofs.ReceiverCases.{marksOk, counts-ok, refusal-ok, framed-ok, unframed-ok}
+use Rattle.link.proofs.ReceiverCases.{marksOk, counts-ok, refused-ok, framed-ok, unframed-ok}
 use Rattle.link.proofs.receiver.Receiver.in_bounds.Statement.{statement}
 use Rattle.link.proofs.receiver.Receiver.in_bounds.Tie as tie
 
@@ -63,34 +63,31 @@ marks c =
     let h = t .before in
     counts-ok _ _ (few (h .before)) (sym (h .held-ok .ensures) ∙ not-false (h .held-ok .result) (t .if2 .left)) (s .if3 .left) (c .if4 .left)
 
+refusal-ok-requires : tie.Need-refusal-ok-requires
+refusal-ok-requires c κs = search needs
+
+-- a refusal is remembered
 returns-5 : tie.Need-returns-5
-returns-5 c = simp (marks (c .before .before), ne-eqb _ _ (c .before .if5 .taken), lt-leb _ _ (c .if6 .taken))
-
-returns-6 : tie.Need-returns-6
-returns-6 c =
-    let t = c .before .before in
-    simp (marks (t .before), ne-eqb _ _ (t .if5 .taken), le-leb _ _ (c .before .if6 .left), lt-leb _ _ (c .if7 .taken))
-
-returns-7 : tie.Need-returns-7
-returns-7 c =
-    let t = c .before .before in
-    sym (marks (t .before) ∙ refusal-ok (self (t .before)) (t .if5 .taken) (c .before .if6 .left) (c .if7 .left))
+returns-5 c =
+    let n = c .before in
+    let t = n .before in
+    simp (marks (t .before), refused-ok (self (t .before)) (t .if5 .taken), n .refusal-ok .ensures)
 
 last-block-ok-requires : tie.Need-last-block-ok-requires
 last-block-ok-requires c κs = search needs
 
-returns-8 : tie.Need-returns-8
-returns-8 c =
+returns-6 : tie.Need-returns-6
+returns-6 c =
     let t = c .before .before in
-    c .last-block-ok .ensures ∙ sym (marks (t .before) ∙ framed-ok (self (t .before)) (t .if5 .left) (c .before .if8 .taken))
+    c .last-block-ok .ensures ∙ sym (marks (t .before) ∙ framed-ok (self (t .before)) (t .if5 .left) (c .before .if6 .taken))
 
 fresh-ok-requires : tie.Need-fresh-ok-requires
 fresh-ok-requires c κs = search needs
 
-returns-9 : tie.Need-returns-9
-returns-9 c =
+returns-7 : tie.Need-returns-7
+returns-7 c =
     let t = c .before .before in
-    c .fresh-ok .ensures ∙ sym (marks (t .before) ∙ unframed-ok (self (t .before)) (t .if5 .left) (c .before .if8 .left))
+    c .fresh-ok .ensures ∙ sym (marks (t .before) ∙ unframed-ok (self (t .before)) (t .if5 .left) (c .before .if6 .left))
 
 pub in-bounds-spec : {M : Type 1} → statement M
 in-bounds-spec =
@@ -103,10 +100,9 @@ in-bounds-spec =
     returns-2
     returns-3
     returns-4
+    refusal-ok-requires
     returns-5
-    returns-6
-    returns-7
     last-block-ok-requires
-    returns-8
+    returns-6
     fresh-ok-requires
-    returns-9)
+    returns-7)

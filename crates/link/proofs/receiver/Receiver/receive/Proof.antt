@@ -1,18 +1,20 @@
 -- `link::receiver::Receiver::receive`. Each return by the case of the steps that it is.
 use mathlib.Core.Path.{_≡_, sym, ap, _∙_}
-use mathlib.Core.Bool.{true, false, _||_}
+use mathlib.Core.Bool.{true, false, not, _||_}
 use Prim.Native.Nat.{ℕ, _≤_}
-use lib.Dec.{ltb}
+use lib.Dec.{ltb, eqb}
 use lib.ListN.{length}
 use native.Mathlib.Omega.{arith}
 use borrow.Author.Needs.{needs}
-use borrow.Author.Tests.{not-true, not-false}
+use borrow.Author.Tests.{not-true, not-false, eqb-true, eq-eqb}
 use Rattle.link.specs.Agreed.{agreed, valid, mostDecoded}
-use Rattle.link.specs.Receiver.{ReceiverEnd, inBounds, flagged}
-use Rattle.link.proofs.Tests.{not-below}
-use Rattle.link.proofs.ReceiverBounds.{bounds as facts}
+use Rattle.cobs.specs.CodeBlocks.{fromLine}
+use Rattle.cobs.proofs.Tests.{decide, and-left, and-right}
+use Rattle.link.specs.Receiver.{Receiver, Working, ReceiverEnd, inBounds, steps1To4, flagged}
+use Rattle.link.proofs.Tests.{and-intro, true-false, not-below}
+use Rattle.link.proofs.ReceiverBounds.{ok-if-in-bounds, bounds as facts}
 use Rattle.link.proofs.ReceiverCases.{not-valid, too-short, out-of-bounds, flag-first, flag-second}
-use Rattle.link.proofs.ReceiverCases.{skipped, octet-first, octet-second, inFirst, inSecond}
+use Rattle.link.proofs.ReceiverCases.{skipped, D1-first, D1-second, octet-first, octet-second, inFirst, inSecond}
 use Rattle.link.proofs.receiver.Receiver.receive.Statement.{statement}
 use Rattle.link.proofs.receiver.Receiver.receive.Tie as tie
 
@@ -111,37 +113,108 @@ returns-6 c =
 from-line-requires : tie.Need-from-line-requires
 from-line-requires c κs = search needs
 
-steps-1-to-4-requires : tie.Need-steps-1-to-4-requires
-steps-1-to-4-requires c κs =
-    let n = c .before .before .before in
-    (n .if6 .left, ok (n .before .before .before), long (n .before .before .before .before .before) .1)
+-- D1 that begins a frame
+abbrev turned : tie.Then7 → tie.Else6
+turned c = c .before .before .before
 
-steps-1-to-4-requires-2 : tie.Need-steps-1-to-4-requires-2
-steps-1-to-4-requires-2 c κs =
-    let n = c .before .before .before in
-    (n .if6 .left, ok (n .before .before .before), long (n .before .before .before .before .before) .0)
+is-D1 : (c : tie.Then7) → (fromLine (start (turned c .before .before .before) .args .octet) ≡ 0xD1) × (start (turned c .before .before .before) .args .self .framed ≡ false)
+is-D1 c =
+    let l = c .before .before in
+    let framed = start (turned c .before .before .before) .args .self .framed in (
+      sym (l .from-line .ensures) ∙ eqb-true _ _ (and-left (eqb (l .from-line .result) 0xD1) (not framed) (c .if7 .taken)),
+      not-true framed (and-right (eqb (l .from-line .result) 0xD1) (not framed) (c .if7 .taken)),
+    )
+
+step1-d1-requires : tie.Need-step1-d1-requires
+step1-d1-requires c κs =
+    let b = turned (c .before .before) .before .before .before in
+    (ok-if-in-bounds _ _ (bounds b), long (b .before .before) .0)
+
+step1-d1-requires-2 : tie.Need-step1-d1-requires-2
+step1-d1-requires-2 c κs =
+    let b = turned (c .before .before) .before .before .before in
+    (ok-if-in-bounds _ _ (bounds b), long (b .before .before) .1)
 
 same-length-3 : tie.Need-same-length-3
 same-length-3 c = search needs
 
 returns-7 : tie.Need-returns-7
 returns-7 c =
-    let w = c .before .before in
-    let t = w .before .before .before .before .before .before in
-    let e = found (start (t .before)) in
-    ap (inSecond e) (rw (w .before .before .before .from-line .ensures) at (w .steps-1-to-4 .ensures))
-    ∙ sym (octet-second e _ (ok (t .before)) (enough (t .before .before .before)) (bounds (t .before)) (t .if4 .left) (w .before .before .if7 .taken))
+    let t = c .before .before in
+    let i = t .before in
+    let n = turned i in
+    let b = n .before .before .before in
+    let e = found (start b) in
+    ap (λ (s : Receiver). inSecond e (record { state = s; area = e .second })) (c .step1-d1 .ensures)
+    ∙ sym (D1-second e _ (ok b) (enough (b .before .before)) (bounds b) (n .before .before .if4 .left) (n .if6 .left) (is-D1 i .1) (is-D1 i .0) (t .if8 .taken))
 
 same-length-4 : tie.Need-same-length-4
 same-length-4 c = search needs
 
 returns-8 : tie.Need-returns-8
 returns-8 c =
+    let t = c .before .before in
+    let i = t .before in
+    let n = turned i in
+    let b = n .before .before .before in
+    let e = found (start b) in
+    ap (λ (s : Receiver). inFirst e (record { state = s; area = e .first })) (c .step1-d12 .ensures)
+    ∙ sym (D1-first e _ (ok b) (enough (b .before .before)) (bounds b) (n .before .before .if4 .left) (n .if6 .left) (is-D1 i .1) (is-D1 i .0) (t .if8 .left))
+
+-- any other octet
+abbrev other : tie.Else7 → tie.Else6
+other c = c .before .before .before
+
+-- a D1 is within a frame
+within : (c : tie.Else7) → c .before .before .from-line .result ≡ 0xD1 → start (other c .before .before .before) .args .self .framed ≡ true
+within c q =
+    let framed = start (other c .before .before .before) .args .self .framed in
+    let x = c .before .before .from-line .result in
+    decide framed (λ f. f) (λ f. true-false (sym (and-intro (eqb x 0xD1) (not framed) (eq-eqb x 0xD1 q) (ap not f)) ∙ c .if7 .left))
+
+steps-1-to-4-requires : tie.Need-steps-1-to-4-requires
+steps-1-to-4-requires c κs =
+    let i = c .before .before in
+    let n = other i in
+    let b = n .before .before .before in
+    ((n .if6 .left, ok b, long (b .before .before) .1), within i)
+
+steps-1-to-4-requires-2 : tie.Need-steps-1-to-4-requires-2
+steps-1-to-4-requires-2 c κs =
+    let i = c .before .before in
+    let n = other i in
+    let b = n .before .before .before in
+    ((n .if6 .left, ok b, long (b .before .before) .0), within i)
+
+same-length-5 : tie.Need-same-length-5
+same-length-5 c = search needs
+
+returns-9 : tie.Need-returns-9
+returns-9 c =
     let w = c .before .before in
-    let t = w .before .before .before .before .before .before in
-    let e = found (start (t .before)) in
-    ap (inFirst e) (rw (w .before .before .before .from-line .ensures) at (w .steps-1-to-42 .ensures))
-    ∙ sym (octet-first e _ (ok (t .before)) (enough (t .before .before .before)) (bounds (t .before)) (t .if4 .left) (w .before .before .if7 .left))
+    let t = w .before .before in
+    let i = t .before in
+    let n = other i in
+    let b = n .before .before .before in
+    let e = found (start b) in
+    let area : Working = record { state = e .state; area = e .second } in
+    ap (inSecond e) (w .steps-1-to-4 .ensures (e .first) ∙ ap (steps1To4 (agreed (e .state .settings)) (e .first) area) (i .before .before .from-line .ensures))
+    ∙ sym (octet-second e _ (ok b) (enough (b .before .before)) (bounds b) (n .before .before .if4 .left) (t .if9 .taken))
+
+same-length-6 : tie.Need-same-length-6
+same-length-6 c = search needs
+
+returns-10 : tie.Need-returns-10
+returns-10 c =
+    let w = c .before .before in
+    let t = w .before .before in
+    let i = t .before in
+    let n = other i in
+    let b = n .before .before .before in
+    let e = found (start b) in
+    let area : Working = record { state = e .state; area = e .first } in
+    ap (inFirst e) (w .steps-1-to-42 .ensures (e .second) ∙ ap (steps1To4 (agreed (e .state .settings)) (e .second) area) (i .before .before .from-line .ensures))
+    ∙ sym (octet-first e _ (ok b) (enough (b .before .before)) (bounds b) (n .before .before .if4 .left) (t .if9 .left))
 
 pub receive-spec : {M : Type 1} → statement M
 receive-spec =
@@ -161,9 +234,15 @@ receive-spec =
     returns-5
     returns-6
     from-line-requires
-    steps-1-to-4-requires
-    steps-1-to-4-requires-2
+    step1-d1-requires
+    step1-d1-requires-2
     same-length-3
     returns-7
     same-length-4
-    returns-8)
+    returns-8
+    steps-1-to-4-requires
+    steps-1-to-4-requires-2
+    same-length-5
+    returns-9
+    same-length-6
+    returns-10)

@@ -13,16 +13,7 @@ step4-remember-requires c κs = search needs
 
 returns : tie.Need-returns
 unfolding step1FirstOctet
-returns c = simp (eq-eqb _ _ (c .before .before .if1 .taken), c .step4-remember .ensures, c .before .let-go .ensures)
-
-step1-d1-requires : tie.Need-step1-d1-requires
-step1-d1-requires c κs = search needs
-
-returns-2 : tie.Need-returns-2
-unfolding step1FirstOctet
-returns-2 c =
-    let t = c .before in
-    simp (ne-eqb _ _ (t .before .if1 .left), eq-eqb _ _ (t .if2 .taken), c .step1-d1 .ensures)
+returns c aside = simp (eq-eqb _ _ (c .before .before .if1 .taken), c .step4-remember .ensures, c .before .let-go .ensures)
 
 step2-code-requires : tie.Need-step2-code-requires
 step2-code-requires c κs = search needs
@@ -30,22 +21,13 @@ step2-code-requires c κs = search needs
 same-length : tie.Need-same-length
 same-length c = search needs
 
-returns-3 : tie.Need-returns-3
+returns-2 : tie.Need-returns-2
 unfolding step1FirstOctet
-returns-3 c =
+returns-2 c aside =
     let d = c .before .before in
     let t = d .before .before in
-    simp (ne-eqb _ _ (t .before .if1 .left), ne-eqb _ _ (t .if2 .left)) (d .step2-code .ensures)
+    simp (ne-eqb _ _ (t .if1 .left), ne-eqb _ _ (t .before .before .pre .2)) (d .step2-code .ensures)
 
 pub step1-first-octet-spec : {M : Type 1} → statement M
 step1-first-octet-spec =
-    tie.close
-    (tie.spec
-    let-go-requires
-    step4-remember-requires
-    returns
-    step1-d1-requires
-    returns-2
-    step2-code-requires
-    same-length
-    returns-3)
+    tie.close (tie.spec let-go-requires step4-remember-requires returns step2-code-requires same-length returns-2)
