@@ -80,7 +80,7 @@ static void read_stretches(const uint8_t *octets, size_t length) {
 static void capture(void (*take)(const uint8_t *, size_t)) {
     static uint8_t piece[PIECE];
     size_t length;
-    kuta_receiver_open(state, KUTA_ZXE | KUTA_PRE, KUTA_DEFAULT_WIDTH, KUTA_DEFAULT_LIMIT);
+    kuta_receiver_open(state, KUTA_ZXE | KUTA_PRE, KUTA_DEFAULT_WIDTH, KUTA_DEFAULT_LIMIT, KUTA_PLAIN_ON, 0);
     while ((length = fread(piece, 1, sizeof piece, stdin)) > 0) take(piece, length);
 }
 

@@ -1,15 +1,18 @@
 //! The COBS link of document 01 (frames of code blocks, two lanes, preemption) as a pair of
-//! per-octet state machines: a baseline for measurements. Safe Rust, std only.
+//! per-octet state machines, and the plain PPP that document 02's slip 5 has behind an FF frame: a
+//! baseline for measurements. Safe Rust, std only.
 //!
 //!     rustc --edition 2021 -C opt-level=3 -o link link.rs
 //!
-//!     link capture < octets  > lines     receiver, both settings on: one line a report
+//!     link capture < octets  > lines     receiver, both settings and plain reading on (its map
+//!                                        empty): one line a report
 //!     link send    < records > octets    sender: settings octet, then records of
 //!                                        lane (L or H), wait (2), length (2), packet
 
 use std::fs::File;
 use std::hint::cold_path;
 use std::io::{self, ErrorKind, Read, Write};
+use std::ops::Range;
 use std::os::fd::AsFd;
 use std::process::ExitCode;
 
@@ -18,8 +21,11 @@ const FLAG: u8 = 0x7E;
 const STAND_IN: u8 = 0x00;
 /// First octet of a resumed frame.
 const RESUME: u8 = 0xD1;
-/// First octet of a frame that isn't for us, as a peer sends that has restarted; what is held goes.
+/// First octet of a frame in plain PPP, as are all behind it; what is held goes.
 const FOREIGN: u8 = 0xFF;
+/// In plain PPP the octet behind it is changed by ESCAPE_BIT.
+const ESCAPE: u8 = 0x7D;
+const ESCAPE_BIT: u8 = 0x20;
 /// Code of a full block: 207 data octets and no zero.
 const FULL_CODE: u8 = 0xD0;
 const FULL_BLOCK: usize = 207;
@@ -36,6 +42,7 @@ const PACKET_SHORTEST: usize = 2;
 const PACKET_LONGEST: usize = 2048;
 const FCS_LENGTH: usize = 2;
 const FRAME_SHORTEST: usize = PACKET_SHORTEST + FCS_LENGTH;
+const FRAME_LONGEST: usize = PACKET_LONGEST + FCS_LENGTH;
 const SEND_AREA: usize = PACKET_LONGEST + FCS_LENGTH;
 const RECEIVE_AREA: usize = SEND_AREA + 1;
 
@@ -82,6 +89,13 @@ fn fcs_step(register: u32, octet: u8) -> u32 {
     (register >> 8) ^ FCS_TABLE[((register ^ u32::from(octet)) & 0xFF) as usize]
 }
 
+/// Two steps; the register is as wide as both octets, so that they go in together.
+#[inline(always)]
+fn fcs_two_steps(register: u32, octets: [u8; 2]) -> u32 {
+    let register = register ^ u32::from(u16::from_le_bytes(octets));
+    fcs_step(fcs_step(register, 0), 0)
+}
+
 fn fcs_register(octets: &[u8]) -> u32 {
     octets
         .iter()
@@ -91,7 +105,6 @@ fn fcs_register(octets: &[u8]) -> u32 {
 // ------------------------------------------------------------------------------------ receiver
 
 /// Numbers of the refusal table.
-const BEGINS_FF: u8 = 5;
 const NOT_AGREED: u8 = 6;
 const NO_SUCH_CODE: u8 = 7;
 const NOTHING_HELD: u8 = 8;
@@ -101,14 +114,22 @@ const ENDS_IN_BLOCK: u8 = 11;
 const LAST_FULL: u8 = 12;
 const TOO_LITTLE: u8 = 13;
 const BAD_FCS: u8 = 14;
+const ENDS_IN_ESCAPE: u8 = 18;
 const HELD_CHANGED: u8 = 21;
 
+/// Foreign says that the octet is a plain frame's first, and that the receiver is done with.
 #[derive(Clone, Copy)]
 enum Report {
     Quiet,
     Packet { length: u16 },
     Held { count: u16, replaced: bool },
     Refused(u8),
+    Foreign,
+}
+
+trait Area {
+    /// The packet just reported.
+    fn packet(&self, length: u16) -> &[u8];
 }
 
 #[derive(Clone, Copy, PartialEq, Eq)]
@@ -123,6 +144,8 @@ enum Phase {
     Overlong,
     /// The rest of the frame is skipped.
     Refused,
+    /// The frame is a plain one; what is held goes with the receiver.
+    Foreign,
 }
 
 /// The part of a receiver's state that every data octet changes or needs.
@@ -187,13 +210,12 @@ impl Receiver {
         } else if frame.phase != Phase::Refused {
             cold_path();
             *cursor = frame.code(*cursor, from_line(octet));
+            if frame.phase == Phase::Foreign {
+                cold_path();
+                return Report::Foreign;
+            }
         }
         Report::Quiet
-    }
-
-    /// The packet just reported.
-    fn packet(&self, length: u16) -> &[u8] {
-        &self.frame.areas.as_flattened()[self.frame.base..][..usize::from(length)]
     }
 }
 
@@ -205,6 +227,12 @@ impl Cursor {
             block_end: base,
             register: FCS_START,
         }
+    }
+}
+
+impl Area for Frame {
+    fn packet(&self, length: u16) -> &[u8] {
+        &self.areas.as_flattened()[self.base..][..usize::from(length)]
     }
 }
 
@@ -222,8 +250,8 @@ impl Frame {
     fn code(&mut self, mut cursor: Cursor, code: u8) -> Cursor {
         match self.phase {
             Phase::Outside if code == FOREIGN => {
-                self.held = None;
-                self.refuse(cursor, BEGINS_FF)
+                self.phase = Phase::Foreign;
+                cursor
             }
             Phase::Outside if code == RESUME => self.resume(cursor),
             Phase::Outside | Phase::Resumed => self.begin_block(cursor, code),
@@ -238,7 +266,7 @@ impl Frame {
                 self.begin_block(cursor, code)
             }
             Phase::Overlong => self.refuse(cursor, TOO_MUCH),
-            Phase::Refused => cursor,
+            Phase::Refused | Phase::Foreign => cursor,
         }
     }
 
@@ -320,7 +348,7 @@ impl Frame {
     #[inline(always)]
     fn report(&mut self, mut cursor: Cursor) -> Report {
         match self.phase {
-            Phase::Outside => return Report::Quiet,
+            Phase::Outside | Phase::Foreign => return Report::Quiet,
             Phase::Refused => return Report::Refused(self.refusal),
             Phase::Resumed => return Report::Refused(RESUME_ALONE),
             Phase::Block if cursor.place == cursor.block_end => {}
@@ -363,6 +391,139 @@ fn from_line(octet: u8) -> u8 {
     } else {
         octet
     }
+}
+
+// ------------------------------------------------------------------------------ plain receiver
+
+/// An octet more than the longest frame: the area is full when the frame is too long.
+const PLAIN_AREA: usize = FRAME_LONGEST + 1;
+/// So many octets are looked at and copied together.
+const WORD: usize = 8;
+
+/// The receiver of plain PPP.
+struct Plain {
+    /// Where the next octet goes.
+    place: usize,
+    /// The check register over the octets decoded.
+    register: u32,
+    /// Behind an escape.
+    escaped: bool,
+    area: [u8; PLAIN_AREA],
+}
+
+impl Area for Plain {
+    fn packet(&self, length: u16) -> &[u8] {
+        &self.area[..usize::from(length)]
+    }
+}
+
+impl Plain {
+    /// Behind the FF that begins the first frame.
+    fn open() -> Plain {
+        Plain {
+            place: 1,
+            register: fcs_step(FCS_START, FOREIGN),
+            escaped: false,
+            area: [FOREIGN; PLAIN_AREA],
+        }
+    }
+
+    /// Takes octets from the line, up to a flag or all.
+    #[inline(never)]
+    fn receive(&mut self, line: &mut &[u8]) -> Report {
+        let (mut place, mut register, mut escaped) = (self.place, self.register, self.escaped);
+        let mut rest = *line;
+        loop {
+            while !escaped && place <= PLAIN_AREA - WORD {
+                let Some((word, behind)) = rest.split_first_chunk::<WORD>() else {
+                    break;
+                };
+                let room = &mut self.area[place..][..WORD];
+                room.copy_from_slice(word);
+                let marks = escapes_and_flags(*word);
+                if marks == 0 {
+                    for &two in word.as_chunks().0 {
+                        register = fcs_two_steps(register, two);
+                    }
+                    place += WORD;
+                    rest = behind;
+                    continue;
+                }
+                let count = (marks.trailing_zeros() / 8) as usize;
+                for &octet in &word[..count] {
+                    register = fcs_step(register, octet);
+                }
+                place += count;
+                rest = &rest[count..];
+                match *rest {
+                    [ESCAPE, octet, ref behind @ ..] if octet != FLAG => {
+                        room[count] = octet ^ ESCAPE_BIT;
+                        register = fcs_step(register, octet ^ ESCAPE_BIT);
+                        place += 1;
+                        rest = behind;
+                    }
+                    _ => break,
+                }
+            }
+            if place == PLAIN_AREA {
+                let flag = rest.iter().position(|&octet| octet == FLAG);
+                rest = &rest[flag.unwrap_or(rest.len())..];
+            }
+            let Some((&octet, behind)) = rest.split_first() else {
+                break;
+            };
+            rest = behind;
+            if octet == FLAG {
+                *line = rest;
+                return self.flag(place, register, escaped);
+            }
+            if octet == ESCAPE && !escaped {
+                escaped = true;
+                continue;
+            }
+            let octet = if escaped { octet ^ ESCAPE_BIT } else { octet };
+            escaped = false;
+            self.area[place] = octet;
+            place += 1;
+            register = fcs_step(register, octet);
+        }
+        *line = rest;
+        (self.place, self.register, self.escaped) = (place, register, escaped);
+        Report::Quiet
+    }
+
+    #[inline(always)]
+    fn flag(&mut self, length: usize, register: u32, escaped: bool) -> Report {
+        (self.place, self.register, self.escaped) = (0, FCS_START, false);
+        if length > FRAME_LONGEST {
+            Report::Refused(TOO_MUCH)
+        } else if escaped {
+            Report::Refused(ENDS_IN_ESCAPE)
+        } else if length == 0 {
+            Report::Quiet
+        } else if length < FRAME_SHORTEST {
+            Report::Refused(TOO_LITTLE)
+        } else if register != FCS_GOOD {
+            Report::Refused(BAD_FCS)
+        } else {
+            Report::Packet {
+                length: (length - FCS_LENGTH) as u16,
+            }
+        }
+    }
+}
+
+/// 0 if no octet is an escape or a flag; else the lowest bit set is in the first that is.
+#[inline(always)]
+fn escapes_and_flags(octets: [u8; WORD]) -> u64 {
+    const ONES: u64 = u64::from_le_bytes([1; WORD]);
+    const TOPS: u64 = ONES << 7;
+    let word = u64::from_le_bytes(octets);
+    // What is sought becomes 0. Of octets below 80 the subtraction sets the top bit of the first
+    // that is 0, and of none before it.
+    let escapes = word ^ (ONES * ESCAPE as u64);
+    let flags = word ^ (ONES * FLAG as u64);
+    (escapes.wrapping_sub(ONES) | flags.wrapping_sub(ONES)) & !word & TOPS
 }
 
 // -------------------------------------------------------------------------------------- sender
@@ -642,17 +803,17 @@ impl<W: Write> Lines<W> {
     }
 
     #[inline(never)]
-    fn report(&mut self, report: Report, receiver: &Receiver) -> io::Result<()> {
+    fn report(&mut self, report: Report, area: &impl Area) -> io::Result<()> {
         if self.used + LONGEST_LINE > self.buffer.len() {
             self.flush()?;
         }
         let line = &mut self.buffer[self.used..][..LONGEST_LINE];
         let end = match report {
-            Report::Quiet => return Ok(()),
+            Report::Quiet | Report::Foreign => return Ok(()),
             Report::Packet { length } => {
                 line[0] = b'P';
                 let at = number(line, 1, length);
-                octets(line, at, receiver.packet(length))
+                octets(line, at, area.packet(length))
             }
             Report::Held { count, replaced } => {
                 line[0] = b'H';
@@ -702,24 +863,96 @@ fn octets(line: &mut [u8], at: usize, octets: &[u8]) -> usize {
     at + 3 * octets.len()
 }
 
+/// What is captured, read in large pieces.
+struct Pieces<R: Read> {
+    input: R,
+    piece: Vec<u8>,
+    /// What is left of the piece.
+    rest: Range<usize>,
+}
+
+impl<R: Read> Pieces<R> {
+    fn new(input: R) -> Pieces<R> {
+        Pieces {
+            input,
+            piece: vec![0; PIECE],
+            rest: 0..0,
+        }
+    }
+
+    /// What is left of the piece, or else the next one; empty at the input's end.
+    fn take(&mut self) -> io::Result<&[u8]> {
+        while self.rest.is_empty() {
+            match self.input.read(&mut self.piece) {
+                Ok(0) => break,
+                Ok(count) => self.rest = 0..count,
+                Err(error) if error.kind() == ErrorKind::Interrupted => {}
+                Err(error) => return Err(error),
+            }
+        }
+        let taken = self.rest.clone();
+        self.rest.start = taken.end;
+        Ok(&self.piece[taken])
+    }
+
+    /// The last so many of the octets taken are left after all.
+    fn leave(&mut self, count: usize) {
+        self.rest.start -= count;
+    }
+}
+
+/// Up to the input's end, or behind a first FF; whether it is the latter.
 #[inline(never)]
-fn capture(mut input: impl Read, output: impl Write) -> io::Result<()> {
+fn capture_cobs<R: Read, W: Write>(
+    pieces: &mut Pieces<R>,
+    lines: &mut Lines<W>,
+) -> io::Result<bool> {
     let mut receiver = Receiver::open(Settings::from(3));
-    let mut lines = Lines::new(output);
-    let mut piece = [0; PIECE];
     loop {
-        let count = match input.read(&mut piece) {
-            Ok(0) => break,
-            Ok(count) => count,
-            Err(error) if error.kind() == ErrorKind::Interrupted => continue,
-            Err(error) => return Err(error),
-        };
-        for &octet in &piece[..count] {
+        let piece = pieces.take()?;
+        if piece.is_empty() {
+            return Ok(false);
+        }
+        let mut octets = piece.iter();
+        for &octet in octets.by_ref() {
             match receiver.receive(octet) {
+                Report::Quiet => {}
+                Report::Foreign => {
+                    let left = octets.len();
+                    pieces.leave(left);
+                    return Ok(true);
+                }
+                report => lines.report(report, &*receiver.frame)?,
+            }
+        }
+    }
+}
+
+#[inline(never)]
+fn capture_plain<R: Read, W: Write>(
+    pieces: &mut Pieces<R>,
+    lines: &mut Lines<W>,
+) -> io::Result<()> {
+    let mut receiver = Plain::open();
+    loop {
+        let mut octets = pieces.take()?;
+        if octets.is_empty() {
+            return Ok(());
+        }
+        while !octets.is_empty() {
+            match receiver.receive(&mut octets) {
                 Report::Quiet => {}
                 report => lines.report(report, &receiver)?,
             }
         }
+    }
+}
+
+fn capture(input: impl Read, output: impl Write) -> io::Result<()> {
+    let mut pieces = Pieces::new(input);
+    let mut lines = Lines::new(output);
+    if capture_cobs(&mut pieces, &mut lines)? {
+        capture_plain(&mut pieces, &mut lines)?;
     }
     lines.flush()
 }

@@ -4,8 +4,10 @@
 LINK is the compiled link.rs; its sender makes the .octets of packets and fragments. A file is
 left as it is if it has the size that the file `stamp` in DIRECTORY has for it.
 """
+import binascii
 import json
 import random
+import re
 import subprocess
 import sys
 from pathlib import Path
@@ -13,6 +15,12 @@ from pathlib import Path
 LOW, HIGH, ZXE, PRE = b"L", b"H", 1, 2
 # 0 to 127 become zero, the others 1 to 128 (7E is among them).
 HALF_ZERO = bytes(128) + bytes(range(1, 129))
+
+# Plain PPP: the octets sent as 7D and themselves xor 20. What is sent before the link is agreed on escapes all below 20.
+MARKED = re.compile(rb"[\x7D\x7E]")
+MARKED_CONTROLS = re.compile(rb"[\x00-\x1F\x7D\x7E]")
+LCP = bytes.fromhex("FF 03 C0 21 01 01 00 04")
+MIRRORED = bytes(int(f"{octet:08b}"[::-1], 2) for octet in range(256))
 
 
 def record(lane, wait, packet):
@@ -51,6 +59,23 @@ def records(settings, seed, maker, *numbers):
     return write
 
 
+def plain_frame(packet, marked):
+    """A packet, its FCS and a flag. binascii has the FCS's polynomial with the bits the other way round."""
+    register = binascii.crc_hqx(packet.translate(MIRRORED), 0xFFFF) ^ 0xFFFF
+    fcs = register.to_bytes(2, "big").translate(MIRRORED)
+    return marked.sub(lambda octet: bytes([0x7D, octet[0][0] ^ 0x20]), packet + fcs) + b"\x7E"
+
+
+def plain_frames(marked, seed, size, count):
+    """A frame that begins FF, and then plain PPP."""
+    def write(path):
+        rng = random.Random(seed)
+        with open(path, "wb", buffering=1 << 20) as file:
+            file.write(plain_frame(LCP, MARKED_CONTROLS))
+            file.writelines(plain_frame(rng.randbytes(size), marked) for _ in range(count))
+    return write
+
+
 def sent(link, source):
     def write(path):
         with open(path.parent / source, "rb") as read, open(path, "wb") as file:
@@ -66,6 +91,8 @@ def main(directory, link):
         "packets.octets": sent(link, "packets.records"),
         "fragments.records": records(ZXE | PRE, 2, fragments, 107_000),
         "fragments.octets": sent(link, "fragments.records"),
+        "plain.octets": plain_frames(MARKED, 8, 1400, 14_150),
+        "plain-controls.octets": plain_frames(MARKED_CONTROLS, 9, 1400, 12_590),
         "send-1400.records": records(ZXE | PRE, 3, plain, 1400, 14_300),
         "send-40.records": records(ZXE | PRE, 4, plain, 40, 500_000),
         "send-1400-cut.records": records(ZXE | PRE, 5, cut, 1400, 14_300, 40, 300),

@@ -27,9 +27,10 @@ def calls(n):
 
 
 def opened(letter, width, limit=2048):
-    """An end, both settings on, and areas that are long enough for either width."""
+    """An end, both settings on, and areas that are long enough for either width; of a receiver plain reading is on, its map empty."""
     lent = struct.pack("<4H", limit + 4, limit + 4, limit + 5, limit + 5)
-    return b"a" + lent + letter + struct.pack("<BBH", 3, width, limit)
+    reading = struct.pack("<BI", 1, 0) if letter == b"O" else b""
+    return b"a" + lent + letter + struct.pack("<BBH", 3, width, limit) + reading
 
 
 def sent(script, width=16, limit=2048):
@@ -144,35 +145,75 @@ def season():
     cut, alarm, rest = interrupted(907, 33)      # another is broken off meanwhile, and replaces what is held
     yield cut + alarm + rest
     yield rest                                   # the same rest once more, as after an echo on the line: nothing is held
-    yield b"\xff\x03" + echo_reply(87) + FLAG    # an old modem's framing
     yield frame(echo_reply(88))
+    yield b"\xff\x03" + echo_reply(87) + FLAG    # an old modem's framing, without a check: from here on plain PPP is read
     yield frame(echo_reply(89))[:-4]             # the capture ends inside a frame
 
 
 # ---- a restart, while a packet is suspended: echo replies 92 and 93, datagrams 931 to 936
 
 
-def plain(packet):
-    """A frame of plain PPP (RFC 1662, section 4), with every control octet escaped, and without the flag before it."""
-    register = 0xFFFF
-    for octet in b"\xff\x03" + packet:
-        register ^= octet
-        for _ in range(8):
-            register = register >> 1 ^ (0x8408 if register & 1 else 0)
-    octets = b"\xff\x03" + packet + struct.pack("<H", register ^ 0xFFFF)
-    return b"".join(bytes([0x7D, o ^ 0x20]) if o < 0x20 or o in b"\x7d\x7e" else bytes([o]) for o in octets) + FLAG
+CONTROLS = bytes(range(0x20))
+
+
+def plain(packet, escaped=CONTROLS):
+    """A frame of plain PPP (RFC 1662, section 4), as the model's plain sender writes it: FF 03 and the packet, with these octets
+    escaped, and without a flag before it."""
+    marks = sum(1 << octet for octet in escaped).to_bytes(32, "little")
+    pair = b"p" + struct.pack("<BBHI", 3, 16, 2048, 0) + marks
+    letter, length, *octets = model("exercise", pair + load(b"w", b"\xff\x03" + packet)).decode().split()
+    assert letter == "W" and int(length) == len(octets)
+    return bytes(int(octet, 16) for octet in octets)
+
+
+MRU, MAP, SMALL_MRU = "01040800", "020600000000", "010400f0"  # options: packets of up to 2,048, no control octets escaped, up to 240
+
+
+def configure(code, number, *options):
+    """An LCP Configure message: 1 Request, 2 Ack, 3 Nak."""
+    octets = b"".join(bytes.fromhex(option) for option in options)
+    return struct.pack(">HBBH", 0xC021, code, number, 4 + len(octets)) + octets
 
 
 def restart():
     yield frame(echo_reply(92))
     cut, alarm, rest = interrupted(931, 40)                # broken off, the alarm, and then the station restarts
     yield cut + alarm
-    yield plain(bytes.fromhex("c0210101000801040800"))     # a Configure-Request: an MRU of 2,048. (The draft's option for COBS has no number.)
-    yield plain(bytes.fromhex("c0210207000801040800"))     # a Configure-Ack
+    yield plain(configure(1, 1, MRU))                      # a Configure-Request. (The draft's option for COBS has no number.)
+    yield plain(configure(2, 7, MRU))                      # a Configure-Ack
+    # COBS again. The capture program goes on in plain PPP, since nobody opens it anew: it refuses all of this.
     cut, alarm, rest = interrupted(933, 33)                # broken off, and its beginning never arrives
     yield alarm + rest
     yield from interrupted(935, 40)
     yield frame(echo_reply(93))
+
+
+# ---- a modem restarts: COBS, then the link is set up anew in plain PPP, where the file ends; and the line after that, for a
+# receiver that is opened anew. Echo replies 101 to 109, datagrams 951 to 962
+
+
+def modem():
+    yield FLAG * 2 + frame(echo_reply(101)) + frame(datagram(951, 9, b"T-02.1 W08"))
+    yield from interrupted(953, 40)                        # broken off, the alarm, resumed
+    yield frame(echo_reply(102))
+    cut, alarm, rest = interrupted(955, 33)                # broken off, the alarm, and then the modem restarts
+    yield cut + alarm
+    yield plain(configure(1, 1, SMALL_MRU, MAP))           # a Configure-Request, all control octets escaped as long as no map is agreed
+    yield plain(configure(1, 1, SMALL_MRU, MAP))           # once more: nobody answered
+    yield plain(configure(3, 1, MRU))                      # a Configure-Nak of what the other end asked for
+    yield flipped(plain(configure(1, 2, MRU, MAP)), 9, 2)  # one bit turned
+    yield plain(configure(1, 3, MRU, MAP)) + FLAG
+    yield plain(configure(2, 2, MRU, MAP))                 # a Configure-Ack: from here on no control octet is escaped
+    yield plain(echo_reply(103), b"") + plain(datagram(957, 9, b"T-02.4 W09 {~}"), b"")
+    yield plain(echo_reply(104), b"\x11\x13")              # a sender that escapes these two all the same
+
+
+def modem_after():
+    yield frame(echo_reply(105))
+    yield from interrupted(959, 40)
+    yield frame(datagram(961, 9, b"T-02.6 W07")) + FLAG
+    yield flipped(frame(echo_reply(106)), 6, 1)            # one bit turned
+    yield frame(echo_reply(107))
 
 
 # ---- for the sender: a file of packets (docs/SEND.md), and the line that the model makes of the same calls; with 16 bits and with 32;
@@ -197,6 +238,8 @@ write("marked", bytes.fromhex(MARKED))
 write("quiet-link", QUIET)
 write("season-later", b"".join(season()))
 write("restart", b"".join(restart()))
+write("modem", b"".join(modem()))
+write("modem-after", b"".join(modem_after()))
 write("alarm", sent(CALLS))
 put("alarm.records", b"\x03" + RECORDS)
 put("alarm-32.records", b"\x03W\x20" + RECORDS)

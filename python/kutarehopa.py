@@ -1,5 +1,5 @@
 #!/usr/bin/env python3
-r"""Captures of PPP over COBS with preemption, read and written by Kutarehopa's proved C library.
+r"""Captures of PPP over COBS with preemption, and of plain PPP, read and written by Kutarehopa's proved C library.
 
 A capture is any octets: bytes, a path, or a file. Each frame that a flag closes gives one report.
 
@@ -37,6 +37,17 @@ the limit, the most octets of a packet, 2 to 16,384:
     >>> list(kuta.reports(kuta.line([b"123456789"]), limit=8))
     [Refused(number=10, place=12)]
 
+From a frame on that begins FF, as after a restart, a line is read as plain PPP (RFC 1662, section 4), which a
+PlainSender makes; with plain=None such a frame is refused 5, and COBS read on:
+
+    >>> capture = kuta.PlainSender(escaped=bytes(range(32))).send(b"\xff\x03\xc0\x21\x01\x01\x00\x04")
+    >>> print(capture.hex(" ").upper())
+    FF 7D 23 C0 21 7D 21 7D 21 7D 20 7D 24 D1 B5 7E
+    >>> list(kuta.reports(capture))
+    [Packet(octets=b'\xff\x03\xc0!\x01\x01\x00\x04', place=15)]
+    >>> list(kuta.reports(capture, plain=None))
+    [Refused(number=5, place=15)]
+
 `python3 -m kutarehopa FILE..` prints what the program capture prints. docs/READING.md has the protocol, and says what
 a loss rate may count.
 """
@@ -48,10 +59,10 @@ import os
 import sys
 import threading
 from dataclasses import dataclass
-from typing import BinaryIO, Dict, Iterable, Iterator, List, Optional, Union
+from typing import BinaryIO, Dict, Iterable, Iterator, List, NamedTuple, Optional, Union
 
 __all__ = ["ZXE", "PRE", "Report", "Packet", "Held", "Refused", "RefusedCall", "LaneBusy", "Receiver", "Sender",
-           "reports", "tally", "line", "pppfcs16", "pppfcs32"]
+           "PlainSender", "Pair", "reports", "tally", "line", "pppfcs16", "pppfcs32"]
 
 ZXE = 1  # settings: zero runs and pairs, the codes D3 to FE
 PRE = 2  # settings: a packet may be broken off for an urgent one, and resumed
@@ -66,15 +77,17 @@ class _Stretch(ctypes.Structure):
 def _declared(library):
     """The library, its calls with the types of kutarehopa.h."""
     answer, octets, length, octet = ctypes.c_uint32, ctypes.c_void_p, ctypes.c_size_t, ctypes.c_uint8
-    limit = ctypes.c_uint16
+    limit, control = ctypes.c_uint16, ctypes.c_uint32
     for name, result, *arguments in (
-            ("kuta_receiver_open", answer, octets, octet, octet, limit),
+            ("kuta_receiver_open", answer, octets, octet, octet, limit, octet, control),
             ("kuta_receive", answer, octets, octet, octets, length, octets, length),
             ("kuta_read_on", _Stretch, octets, octets, length, octets, length, octets, length),
             ("kuta_sender_open", answer, octets, octet, octet, limit),
             ("kuta_load_low", answer, octets, octets, length, octets, length),
             ("kuta_load_high", answer, octets, octets, length, octets, length),
             ("kuta_write_on", _Stretch, octets, octets, length, octets, length, octets, length),
+            ("kuta_pair_open", answer, octets, octets, octet, octet, limit, control, octets),
+            ("kuta_plain_send", answer, octets, octets, length, octets, length),
             ("pppfcs16", ctypes.c_uint16, ctypes.c_uint16, octets, length),
             ("pppfcs32", ctypes.c_uint32, ctypes.c_uint32, octets, length)):
         call = getattr(library, name)
@@ -107,6 +120,7 @@ _library = _load()
 
 _STATE = 64
 _PACKET, _HELD, _REFUSED = 1, 2, 3  # kinds of answers
+_OFF, _COBS, _PLAIN, _ESCAPED = range(4)  # a receiver's modes
 _PIECE = 65536  # how many octets of a capture are read at a time
 _LIMIT = 2048   # the most octets of a packet, where nothing else is told
 
@@ -141,6 +155,14 @@ def _width(given):
     return width
 
 
+def _limit(given):
+    return _number(given, 2, 16384, "limit")
+
+
+def _map(given):
+    return _number(given, 0, 0xFFFFFFFF, "plain")
+
+
 # ---- Reports and refusals
 
 _REASONS = {
@@ -158,6 +180,8 @@ _REASONS = {
     12: "the frame ends with D0, a block that is never the last",
     13: "the frame is shorter than the shortest packet makes it",
     14: "the check sequence is wrong",
+    18: "the frame ends with an escape, which an octet must follow",
+    19: "what is escaped must have all that is removed, and neither 5E nor any of 20 to 3F",
     21: "the rest of a packet came, and what was held of it has been changed meanwhile",
 }
 
@@ -202,7 +226,7 @@ class Held(Report):
 
 @dataclass(frozen=True)
 class Refused(Report):
-    """A frame was refused: by which number, 5 to 14 or 21, and for what reason."""
+    """A frame was refused: by which number, 5 to 14, 18 or 21, and for what reason."""
     number: int
     place: int
 
@@ -243,15 +267,15 @@ class _End:
     """What both ends are: a state and two areas in memory of their own. Copies, and ends pickled, go their own way."""
     _beyond: int  # how many octets an area has beyond those of the longest packet and its check sequence
 
-    def _own(self, opening, settings, width, limit):
-        settings, limit, width = _number(settings, 0, 255, "settings"), _number(limit, 2, 16384, "limit"), _width(width)
+    def _own(self, opening, settings, width, limit, *reading):
+        settings, limit, width = _number(settings, 0, 255, "settings"), _limit(limit), _width(width)
         area = limit + width // 8 + self._beyond
         self._state = (ctypes.c_uint8 * _STATE)()
         self._areas = (ctypes.c_uint8 * area)(), (ctypes.c_uint8 * area)()
         self._lent = self._areas[0], area, self._areas[1], area
         self._place = 0
         self._lock = threading.Lock()  # a call of the library lets other threads run
-        opening(self._state, settings, width, limit)
+        opening(self._state, settings, width, limit, *reading)
 
     @property
     def state(self) -> bytes:
@@ -304,16 +328,32 @@ class _End:
 
 class Receiver(_End):
     """The receiving end of a line, opened with its settings, the width of its check sequence, 16 or 32, and its limit,
-    the most octets of a packet, 2 to 16,384."""
+    the most octets of a packet, 2 to 16,384.
+
+    plain: a frame that begins FF, and all that follow it, are read as plain PPP, and the octets below 20 (hexadecimal)
+    that this map has are removed there, octet n by its bit 1 << n. None: such a frame is refused 5, and COBS read on.
+    """
 
     _beyond = 1
 
-    def __init__(self, settings: int = ZXE | PRE, width: int = 16, limit: int = _LIMIT):
-        self._own(_library.kuta_receiver_open, settings, width, limit)
+    def __init__(self, settings: int = ZXE | PRE, width: int = 16, limit: int = _LIMIT, plain: Optional[int] = 0):
+        reading = (0, 0) if plain is None else (1, _map(plain))
+        self._own(_library.kuta_receiver_open, settings, width, limit, *reading)
 
     def __repr__(self):
-        return f"<Receiver, settings {self.settings}, width {self.width}, limit {self.limit}, " \
+        plain = "off" if self.plain is None else f"{self.plain:08X}"
+        return f"<Receiver, settings {self.settings}, width {self.width}, limit {self.limit}, plain {plain}, " \
                f"{self._place} octets read>"
+
+    @property
+    def plain(self) -> Optional[int]:
+        """The map of what is removed in plain PPP; None where plain reading is off."""
+        return None if self._state[5] == _OFF else int.from_bytes(self._state[6:10], "little")
+
+    @property
+    def reads_plain(self) -> bool:
+        """Whether a frame has begun FF, so that the line is read as plain PPP by now."""
+        return self._state[5] in (_PLAIN, _ESCAPED)
 
     @property
     def place(self) -> int:
@@ -397,6 +437,98 @@ class Sender(_End):
         return _library.kuta_load_low(self._state, None, 0, self._areas[0], len(self._areas[0]))
 
 
+# ---- Plain PPP
+
+class PlainSender:
+    """The sending end of a line in plain PPP, opened with the width of its check sequence, 16 or 32, its limit, the
+    most octets of a packet, and the octets that it sends escaped beside 7D and 7E, for which 5E and 20 to 3F will not
+    do. It keeps nothing from one packet to the next."""
+
+    def __init__(self, width: int = 16, limit: int = _LIMIT, escaped: bytes = b""):
+        limit, width = _limit(limit), _width(width)
+        self._state = (ctypes.c_uint8 * _STATE)()
+        self._open((ctypes.c_uint8 * _STATE)(), 0, width, limit, 0, escaped)
+
+    def _open(self, receiver, settings, width, limit, plain, escaped):
+        """Opens this sender and the receiver of a pair."""
+        marks = bytearray(32)
+        for octet in _octets(escaped, "escaped"):
+            marks[octet // 8] |= 1 << octet % 8
+        answer = _library.kuta_pair_open(self._state, receiver, settings, width, limit, plain, bytes(marks))
+        if answer >> 24 == _REFUSED:
+            raise ValueError(_REASONS[19])
+
+    def __repr__(self):
+        return f"<PlainSender, width {self.width}, limit {self.limit}, {len(self.escaped)} octets escaped>"
+
+    @property
+    def state(self) -> bytes:
+        """The 64 octets of the state."""
+        return bytes(self._state)
+
+    @property
+    def width(self) -> int:
+        """Of the check sequence, in bits: 16 or 32."""
+        return self._state[1]
+
+    @property
+    def limit(self) -> int:
+        """The most octets of a packet."""
+        return int.from_bytes(self._state[2:4], "little")
+
+    @property
+    def escaped(self) -> bytes:
+        """All octets that are sent escaped, 7D and 7E among them."""
+        return bytes(octet for octet in range(256) if self._state[4 + octet // 8] >> octet % 8 & 1)
+
+    def send(self, packet) -> bytes:
+        """The octets of the line that carry a packet: its frame, and the flag behind it. RefusedCall 1: its length."""
+        packet = _octets(packet, "a packet")
+        room = 2 * (len(packet) + self.width // 8) + 1
+        area = (ctypes.c_uint8 * room)()
+        answer = _library.kuta_plain_send(self._state, packet, len(packet), area, room)
+        if answer >> 24 == _REFUSED:
+            raise _refused(answer & 0xFFFF, self.limit)
+        return ctypes.string_at(area, answer & 0xFFFF)
+
+    def save(self) -> bytes:
+        """All that the sender is, for restore: its state."""
+        return self.state
+
+    @classmethod
+    def restore(cls, saved: bytes):
+        """A sender as it was when it was saved."""
+        saved = _octets(saved, "what was saved")
+        if len(saved) != _STATE:
+            raise ValueError(f"no {cls.__name__} was saved as {len(saved)} octets")
+        sender = cls()
+        sender._state[:] = saved
+        try:
+            sender.send(b"")
+        except RefusedCall as why:
+            if why.number != 1:
+                raise
+        return sender
+
+    def __reduce__(self):
+        return self.restore, (self.save(),)
+
+
+class Pair(NamedTuple):
+    """The two ends of a line in plain PPP, opened together, so that all that the sender sends comes through at the
+    receiver, once that reads plain PPP."""
+    sender: PlainSender
+    receiver: Receiver
+
+    @classmethod
+    def open(cls, settings: int = ZXE | PRE, width: int = 16, limit: int = _LIMIT, plain: int = 0,
+             escaped: bytes = b""):
+        """plain: the map of the octets that the receiver removes. escaped: what the sender escapes, these among it."""
+        pair = cls(PlainSender(width, limit), Receiver(settings, width, limit, _map(plain)))
+        pair.sender._open(pair.receiver._state, pair.receiver.settings, width, limit, pair.receiver.plain, escaped)
+        return pair
+
+
 # ---- Whole lines
 
 def line(packets: Iterable[bytes], settings: int = ZXE | PRE, width: int = 16, limit: int = _LIMIT) -> bytes:
@@ -411,12 +543,12 @@ def line(packets: Iterable[bytes], settings: int = ZXE | PRE, width: int = 16, l
 
 
 def reports(capture: Union[str, os.PathLike, BinaryIO, bytes], settings: int = ZXE | PRE,
-            width: int = 16, limit: int = _LIMIT) -> Iterator[Report]:
+            width: int = 16, limit: int = _LIMIT, plain: Optional[int] = 0) -> Iterator[Report]:
     """The reports of a whole capture: of a path (str or Path), a file open for reading octets, or octets.
 
     Files are read in pieces, and reports come as soon as their octets are there. What follows the last flag gives none.
     """
-    receiver = Receiver(settings, width, limit)
+    receiver = Receiver(settings, width, limit, plain)
     if isinstance(capture, (str, os.PathLike)):
         return _of_path(receiver, capture)
     if hasattr(capture, "read"):
@@ -440,12 +572,13 @@ def _of_file(receiver, file):
 
 
 def tally(of: Iterable[Report]) -> Dict[str, int]:
-    """The fourteen counts that the program count prints, by their names and in its order.
+    """The fifteen counts that the program count prints, by their names and in its order.
 
     Each report raises one of them, so their sum is the number of frames. To count several captures together, chain
     their reports.
     """
-    counts = dict.fromkeys(["packets", "held", "held-replaced", *(f"refused-{number}" for number in (*range(5, 15), 21))], 0)
+    of_frames = (*range(5, 15), 18, 21)
+    counts = dict.fromkeys(["packets", "held", "held-replaced", *(f"refused-{number}" for number in of_frames)], 0)
     for report in of:
         if not isinstance(report, Report):
             raise TypeError(f"tally counts reports, not {type(report).__name__}: tally(reports(capture))")
@@ -467,7 +600,7 @@ def pppfcs32(octets, start: int = 0xFFFFFFFF) -> int:
 
 # ---- As a program
 
-def _print_all(names, width, limit):
+def _print_all(names, width, limit, plain):
     """The lines of each file, under its name where there are several; whether all could be read."""
     gap, good = "", True
     for name in names:
@@ -478,7 +611,7 @@ def _print_all(names, width, limit):
                 if len(names) > 1:
                     print(f"{gap}==> {shown} <==")
                     gap = "\n"
-                receiver = Receiver(width=width, limit=limit)
+                receiver = Receiver(width=width, limit=limit, plain=plain)
                 piece = first
                 while piece:
                     for report in receiver.feed(piece):
@@ -493,6 +626,16 @@ def _print_all(names, width, limit):
     return good
 
 
+def _map_told(text):
+    """Of --plain: a map, or None for off."""
+    if text == "off":
+        return None
+    try:
+        return _map(int(text, 16))
+    except ValueError:
+        raise argparse.ArgumentTypeError(f"must be off, or a map of 1 to 8 hexadecimal digits, not {text!r}") from None
+
+
 def _main():
     parser = argparse.ArgumentParser(prog="kutarehopa", description="Reads captures (settings 3) and prints a line for "
                                      "each report: P, a packet; H, a fragment held; R, a refused frame.")
@@ -500,16 +643,20 @@ def _main():
                         help="bits of the check sequence; 16 if not told")
     parser.add_argument("--limit", type=int, metavar="N", default=_LIMIT,
                         help="the most octets of a packet, 2 to 16384; %(default)s if not told")
+    parser.add_argument("--plain", type=_map_told, metavar="{off,MAP}", default=0,
+                        help="from a frame on that begins FF read plain PPP, and remove octet n if the map, a "
+                        "hexadecimal number, has the bit 1 << n; 0 if not told. off: refuse such a frame (5), and read "
+                        "COBS on")
     parser.add_argument("files", nargs="*", metavar="FILE", default=["-"], help="- or none is standard input")
     given = parser.parse_args()
     try:
-        Receiver(width=given.width, limit=given.limit)
+        Receiver(width=given.width, limit=given.limit, plain=given.plain)
     except ValueError as why:
         parser.error(str(why))
     if sys.stdout is None:
         sys.exit("kutarehopa: standard output: cannot be written: Bad file descriptor")
     try:
-        good = _print_all(given.files, given.width, given.limit)
+        good = _print_all(given.files, given.width, given.limit, given.plain)
         sys.stdout.flush()
         return 0 if good else 1
     except BrokenPipeError:

@@ -21,7 +21,7 @@ import unittest
 import zlib
 
 import kutarehopa as kuta
-from kutarehopa import Held, LaneBusy, Packet, Receiver, Refused, RefusedCall, Sender
+from kutarehopa import Held, LaneBusy, Packet, Pair, PlainSender, Receiver, Refused, RefusedCall, Sender
 
 HERE = os.path.dirname(os.path.abspath(__file__))
 ROOT = os.path.dirname(HERE)
@@ -36,6 +36,11 @@ WRONG_LIMITS = 0, 1, 16385, 65536, -1, 65536 + 2048, -65536 + 2048
 # A packet broken off behind three octets, an urgent one, the rest of the first, and a frame that is too short.
 MARKED = b"\x0c123\x7e" + NINE_SENT + b"\xd1\x09456789\x6e\x90\x7e" + b"\xd3\x7e"
 MARKED_REPORTS = [Held(3, False, 4), Packet(NINE, 17), Packet(NINE, 28), Refused(13, 30)]
+# A Configure-Request in plain PPP, no control octet escaped and all.
+REQUEST = bytes.fromhex("FF 03 C0 21 01 01 00 04")
+REQUEST_SENT = bytes.fromhex("FF 03 C0 21 01 01 00 04 D1 B5 7E")
+REQUEST_ESCAPED = bytes.fromhex("FF 7D 23 C0 21 7D 21 7D 21 7D 20 7D 24 D1 B5 7E")
+CONTROLS = bytes(range(32))
 
 
 def octets_of(path):
@@ -182,9 +187,11 @@ class Receiving(unittest.TestCase):
 
     def test_restart(self):
         octets = b"\x05\x31\x7e\xff\x03\x7e\xd1\x01\x7e"
-        self.assertEqual(Receiver().feed(octets), [Held(1, False, 2), Refused(5, 5), Refused(8, 8)])
+        self.assertEqual(Receiver(plain=None).feed(octets), [Held(1, False, 2), Refused(5, 5), Refused(8, 8)])
+        self.assertEqual(Receiver().feed(octets), [Held(1, False, 2), Refused(13, 5), Refused(13, 8)])
         other = octets.replace(b"\xff\x03", b"\xd2")
-        self.assertEqual(Receiver().feed(other), [Held(1, False, 2), Refused(7, 4), Refused(13, 7)])
+        for plain in (None, 0):
+            self.assertEqual(Receiver(plain=plain).feed(other), [Held(1, False, 2), Refused(7, 4), Refused(13, 7)])
 
     def test_changed_area(self):
         """What was saved and is changed before it is restored: a held octet is found out, one behind them does not matter."""
@@ -206,7 +213,7 @@ class Receiving(unittest.TestCase):
                 Receiver.restore(bytes(octets))
 
     def test_reasons(self):
-        for number in (*range(5, 15), 21):
+        for number in (*range(5, 15), 18, 21):
             self.assertGreater(len(Refused(number, 0).reason), 10)
 
     def test_reports_do_not_change(self):
@@ -269,7 +276,7 @@ class Receiving(unittest.TestCase):
 
 class Tallying(unittest.TestCase):
     def test_names(self):
-        names = ["packets", "held", "held-replaced"] + [f"refused-{number}" for number in (*range(5, 15), 21)]
+        names = ["packets", "held", "held-replaced"] + [f"refused-{number}" for number in (*range(5, 15), 18, 21)]
         self.assertEqual(list(kuta.tally([])), names)
 
     def test_counts(self):
@@ -569,7 +576,8 @@ class Limits(unittest.TestCase):
                 made = end(7, width, limit)
                 self.assertEqual((made.settings, made.width, made.limit, len(made.state)), (7, width, limit, 64))
                 self.assertEqual(made.state[:5], bytes((1, width, limit & 255, limit >> 8, 7)))
-                self.assertIn(f"settings 7, width {width}, limit {limit}, 0 octets", repr(made))
+                self.assertIn(f"settings 7, width {width}, limit {limit}, ", repr(made))
+                self.assertIn(", 0 octets ", repr(made))
 
     def test_no_other(self):
         for take in (lambda limit: Receiver(3, 16, limit), lambda limit: Sender(limit=limit),
@@ -583,6 +591,177 @@ class Limits(unittest.TestCase):
                     take(wrong)
         with self.assertRaisesRegex(ValueError, "^width must be 16 or 32, not 24$"):
             Receiver(3, 24, 16384)
+
+
+def in_plain(plain=0, width=16, limit=2048):
+    """A receiver that reads plain PPP, and counts places from here."""
+    receiver = Receiver(3, width, limit, plain)
+    receiver.feed(b"\xff\x7e")
+    receiver._place = 0
+    return receiver
+
+
+class PlainPPP(unittest.TestCase):
+    """Plain PPP, read behind an FF and sent."""
+
+    def test_request(self):
+        self.assertEqual(PlainSender().send(REQUEST), REQUEST_SENT)
+        self.assertEqual(PlainSender(escaped=CONTROLS).send(REQUEST), REQUEST_ESCAPED)
+        self.assertEqual(PlainSender(escaped=bytearray(b"\x5d")).send(b"\x5d\x7d\x7e\x5e"),
+                         bytes.fromhex("7D 7D 7D 5D 7D 5E 5E CF 0C 7E"))
+        self.assertEqual(PlainSender(32).send(NINE), NINE_SENT_32[1:])
+        for octets in (REQUEST_SENT, REQUEST_ESCAPED):
+            self.assertEqual(Receiver().feed(octets), [Packet(REQUEST, len(octets) - 1)])
+            self.assertEqual(Receiver(plain=None).feed(octets), [Refused(5, len(octets) - 1)])
+        self.assertEqual(Receiver(plain=0xFFFFFFFF).feed(REQUEST_ESCAPED), [Packet(REQUEST, 15)])
+        self.assertEqual(Receiver(plain=0xFFFFFFFF).feed(REQUEST_SENT), [Refused(14, 10)])
+
+    def test_reports(self):
+        for octets, plain, numbers in (
+                (b"\xff\x7e\x7d\x7e", 0, [13, 18]), (b"\xff\x7d\x7e", 0, [18]),
+                (b"\xff\x7e\x11\x11\x7e", 1 << 0x11, [13]), (b"\xff\x7e\x11\x11\x7e", 0, [13, 13]),
+                (b"\xff\x7e\x7d\x11\x7e", 1 << 0x11, [13, 18]), (b"\xff\x7e" + NINE_SENT, 0, [13, 14])):
+            self.assertEqual([report.number for report in Receiver(plain=plain).feed(octets)], numbers)
+        self.assertEqual(Receiver(plain=1 << 0x11).feed(bytes.fromhex("FF 7E 7D 11 5E 41 1E 36 7E"))[1:],
+                         [Packet(b"\x7e\x41", 8)])
+        self.assertEqual(kuta.tally(Receiver().feed(b"\xff\x7d\x7e"))["refused-18"], 1)
+
+    def test_lengths(self):
+        """13 below 4 octets, or 6; 10 above the limit and the check sequence; an escape at the end before 13, behind 10."""
+        for limit, width in itertools.product(LIMITS, WIDTHS):
+            longest_frame = limit + width // 8
+            for octets, number in ((b"1" * (1 + width // 8), 13), (b"1" * (2 + width // 8), 14), (b"1" * longest_frame, 14),
+                                   (b"1" * (longest_frame + 1), 10), (b"1" * longest_frame + b"\x7d", 18),
+                                   (b"1" * longest_frame + b"\x7d1", 10), (b"1" * longest_frame + b"1\x7d", 10),
+                                   (b"1\x7d", 18)):
+                self.assertEqual(in_plain(0, width, limit).feed(octets + b"\x7e"), [Refused(number, len(octets))])
+
+    def test_change(self):
+        """The FF, wherever it stands; and what the receiver says of itself."""
+        for before, reads in ((b"", True), (b"\x7e", True), (NINE_SENT, True), (b"\x02", False), (b"\x7d\xdf", False)):
+            receiver = Receiver()
+            receiver.feed(before)
+            self.assertEqual((receiver.plain, receiver.reads_plain), (0, False))
+            receiver.feed(b"\xff")
+            self.assertEqual((receiver.plain, receiver.reads_plain), (0, reads))
+        receiver = Receiver(plain=None)
+        receiver.feed(b"\xff\x7e\xff")
+        self.assertEqual((receiver.plain, receiver.reads_plain), (None, False))
+        self.assertIn("plain off", repr(receiver))
+        self.assertIn("plain 000A0000", repr(Receiver(plain=0x000A0000)))
+        self.assertEqual(Receiver(plain=0xFFFFFFFF).plain, 0xFFFFFFFF)
+
+    def test_pair(self):
+        """Packets of any octets, with removed ones put in between, fed in pieces."""
+        rng = random.Random(6)
+        for width, limit in itertools.product(WIDTHS, LIMITS):
+            for plain, escaped in ((0, b""), (0x000A0000, b"\x11\x13"), (0xFFFFFFFF, CONTROLS + b"\x5d\xff"),
+                                   (1, bytes(octet for octet in range(256) if not 0x20 <= octet < 0x40 and octet != 0x5E))):
+                sender, receiver = Pair.open(3, width, limit, plain, escaped)
+                self.assertEqual((receiver.settings, receiver.width, receiver.limit), (3, width, limit))
+                self.assertEqual((receiver.plain, sender.width, sender.limit), (plain, width, limit))
+                self.assertEqual(set(sender.escaped), {*escaped, 0x7D, 0x7E})
+                receiver.feed(b"\xff\x7e")
+                removed = [octet for octet in range(32) if plain >> octet & 1]
+                packets = [random_packet(rng)[:limit] for _ in range(6)] + [longest(limit), longest(limit, b"\x11")]
+                octets = bytearray()
+                for octet in b"".join(map(sender.send, packets)):
+                    if removed and rng.random() < 0.2:
+                        octets.append(rng.choice(removed))
+                    octets.append(octet)
+                found = [report for piece in pieces(octets, rng, 50) for report in receiver.feed(piece)]
+                self.assertEqual([report.octets for report in found], packets)
+
+    def test_damaged(self):
+        for width, escaped in itertools.product(WIDTHS, (b"", CONTROLS, b"\x41\xff")):
+            octets = PlainSender(width, escaped=escaped).send(NINE + b"\x11\x7e\x7d")
+            for at, bit in itertools.product(range(len(octets) - 1), range(8)):
+                damaged = bytearray(octets)
+                damaged[at] ^= 1 << bit
+                found = in_plain(width=width).feed(damaged)
+                self.assertTrue(found and not any(isinstance(report, Packet) for report in found))
+
+    def test_longest(self):
+        """The longest packet, every octet of it escaped, takes no more than the C library's KUTA_PLAIN_AREA."""
+        for limit, width in itertools.product(LIMITS, WIDTHS):
+            octets = PlainSender(width, limit, b"\x7d").send(longest(limit))
+            self.assertLessEqual(len(octets), 2 * (limit + width // 8) + 1)
+            self.assertEqual(octets[:2 * limit], b"\x7d\x5e" * limit)
+            self.assertEqual(in_plain(0, width, limit).feed(octets), [Packet(longest(limit), len(octets) - 1)])
+
+    def test_refusals(self):
+        for limit, width in itertools.product(LIMITS, WIDTHS):
+            sender = PlainSender(width, limit)
+            for length in (0, 1, limit + 1, 70000):
+                with self.assertRaises(RefusedCall) as caught:
+                    sender.send(bytes(length))
+                self.assertEqual((caught.exception.number, caught.exception.reason),
+                                 (1, f"a packet must have 2 to {limit:,} octets"))
+        for plain, escaped in ((1, b""), (1 << 31, bytes(range(31))), (0, b"\x5e"), (0, b"\x20"), (0, b"\x3f")):
+            with self.assertRaisesRegex(ValueError, "5E nor any of 20 to 3F"):
+                Pair.open(plain=plain, escaped=escaped)
+            if plain == 0:
+                with self.assertRaisesRegex(ValueError, "5E nor any of 20 to 3F"):
+                    PlainSender(escaped=escaped)
+        for take in (lambda plain: Receiver(plain=plain), lambda plain: Pair.open(plain=plain, escaped=CONTROLS),
+                     lambda plain: kuta.reports(b"", plain=plain)):
+            for wrong in (-1, 1 << 32):
+                with self.assertRaisesRegex(ValueError, f"plain must be from 0 to 4294967295, not {wrong}"):
+                    take(wrong)
+            for wrong in ("0", b"\x11", 1.0):
+                with self.assertRaises(TypeError):
+                    take(wrong)
+        with self.assertRaises(TypeError):
+            Pair.open(plain=None)
+        for take in (PlainSender, lambda width: Pair.open(width=width)):
+            with self.assertRaisesRegex(ValueError, "width must be 16 or 32, not 24"):
+                take(24)
+        for take in (lambda limit: PlainSender(limit=limit), lambda limit: Pair.open(limit=limit)):
+            for wrong in WRONG_LIMITS:
+                with self.assertRaisesRegex(ValueError, f"^limit must be from 2 to 16384, not {wrong}$"):
+                    take(wrong)
+        for wrong in ("\x11", 17, [17], None):
+            with self.assertRaises(TypeError):
+                PlainSender(escaped=wrong)
+            with self.assertRaises(TypeError):
+                PlainSender().send(wrong)
+
+    def test_saved_receiver(self):
+        """At each octet of a line that changes over: what is read, and its map, come back."""
+        line = NINE_SENT + b"\x05\x31\x7e" + REQUEST_ESCAPED + b"\x7d\x7e" + REQUEST_ESCAPED
+        for plain in (None, 0, 0xFFFFFFFF):
+            whole = Receiver(plain=plain).feed(line)
+            for cut in range(len(line)):
+                receiver = Receiver(plain=plain)
+                found = receiver.feed(line[:cut])
+                for other in (Receiver.restore(receiver.save()), pickle.loads(pickle.dumps(receiver))):
+                    self.assertEqual((other.plain, other.reads_plain, other.state, repr(other)),
+                                     (plain, receiver.reads_plain, receiver.state, repr(receiver)))
+                    self.assertEqual(found + other.feed(line[cut:]), whole)
+        saved = Receiver().save()
+        for at, octet in ((5, 4), (5, 3), (25, 5)):  # no mode; an escape open, or 5 remembered, out of a frame
+            with self.assertRaises(RefusedCall):
+                Receiver.restore(saved[:at] + bytes((octet,)) + saved[at + 1:])
+
+    def test_saved_sender(self):
+        for width, limit in itertools.product(WIDTHS, LIMITS):
+            sender = PlainSender(width, limit, CONTROLS)
+            saved = sender.save()
+            self.assertEqual((saved, len(saved)), (sender.state, 64))
+            self.assertEqual(repr(sender), f"<PlainSender, width {width}, limit {limit}, 34 octets escaped>")
+            for other in (PlainSender.restore(bytearray(saved)), copy.copy(sender), pickle.loads(pickle.dumps(sender))):
+                self.assertEqual((other.state, other.escaped, repr(other)), (saved, sender.escaped, repr(sender)))
+                self.assertEqual(other.send(b"\x11\x13"[:limit]), sender.send(b"\x11\x13"[:limit]))
+            for wrong in (b"", saved[:-1], saved + b"\0"):
+                with self.assertRaisesRegex(ValueError, f"no PlainSender was saved as {len(wrong)} octets"):
+                    PlainSender.restore(wrong)
+            # octet 0, the width, the limit, 7D and 7E not marked, 5E marked, 20 marked
+            for at, octet in ((0, 0), (0, 2), (1, 24), (3, 255), (4 + 15, 0x20), (4 + 15, 0x40), (4 + 11, 0x40), (4 + 4, 1)):
+                with self.assertRaises(RefusedCall) as caught:
+                    PlainSender.restore(saved[:at] + bytes((octet,)) + saved[at + 1:])
+                self.assertEqual(caught.exception.number, 3)
+        pair = pickle.loads(pickle.dumps(Pair.open(plain=1, escaped=b"\0")))
+        self.assertEqual((type(pair), pair.sender.escaped, pair.receiver.plain), (Pair, b"\0\x7d\x7e", 1))
 
 
 class Saving(unittest.TestCase):
@@ -762,6 +941,20 @@ class Program(unittest.TestCase):
             status, out, error = self.run_with(["-m", "kutarehopa", *arguments, "no such file"])
             self.assertEqual((status, out), (2, ""))
             self.assertTrue(error.endswith(f"kutarehopa: error: {said}"), error)
+
+    def test_plain(self):
+        octets = REQUEST_ESCAPED + b"\xff\x7d\x7e" + REQUEST_SENT
+        request = f"P 8 {REQUEST.hex(' ').upper()}\n"
+        for arguments, out in (([], f"{request}R 18\n{request}"), (["--plain", "0"], f"{request}R 18\n{request}"),
+                               (["--plain", "off"], "R 5\nR 5\nR 5\n"),
+                               (["--plain", "FFFFFFFF"], f"{request}R 18\nR 14\n"),
+                               (["--plain=0xffffffff"], f"{request}R 18\nR 14\n")):
+            self.assertEqual(self.run_with(["-m", "kutarehopa", *arguments], octets), (0, out, ""))
+        for wrong in ("on", "-1", "100000000", "0A000x", ""):
+            status, out, error = self.run_with(["-m", "kutarehopa", f"--plain={wrong}", "no such file"])
+            self.assertEqual((status, out), (2, ""))
+            self.assertTrue(error.endswith("kutarehopa: error: argument --plain: must be off, or a map of 1 to 8 "
+                                           f"hexadecimal digits, not {wrong!r}\n"), error)
 
     def test_nobody_reads_on(self):
         command = f"'{sys.executable}' -B -m kutarehopa - | head -n 1"

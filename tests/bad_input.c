@@ -1,5 +1,5 @@
-/* The C library with bad input: any 64 octets as a state, any width, any limit, areas that are too short or not there, packets and stretches
- * of any length.
+/* The C library with bad input: any 64 octets as a state, any width, any limit, any maps, areas that are too short or not there, packets and
+ * stretches of any length.
  *
  * Each call is held against the rules below, which are its own, and each stretch against the calls octet by octet. Prints a line for each
  * failure and one at the end. Exit status: 0 where nothing failed, else 1. */
@@ -10,24 +10,27 @@
 
 #define LENGTH(array) (sizeof(array) / sizeof(array)[0])
 
-enum { FLAG = 0x7E };
-enum { RECEIVER_OCTETS = 26, SENDER_OCTETS = 38 }; /* how many octets of a state its layout lists (docs/CLIBRARY.md) */
+enum { FLAG = 0x7E, ESCAPE = 0x7D, RESTART = 0xFF };
+enum { RECEIVER_OCTETS = 26, SENDER_OCTETS = 38, PLAIN_OCTETS = 36 }; /* how many octets of a state its layout lists (docs/CLIBRARY.md) */
 
 /* ---- The memory that a call is handed. Around each part lie guard octets, which no call may change. */
 
-enum { GUARD = 64, MOST = KUTA_LARGEST_LIMIT + 256 }; /* more octets than any area, packet or frame on the line has */
+enum { GUARD = 64, MOST = KUTA_LARGEST_LIMIT + 256 }; /* more octets than any area, packet or COBS frame on the line has */
+enum { MOST_PLAIN = KUTA_PLAIN_AREA(32, MOST) + 64 }; /* more than any packet here takes in plain PPP */
 
 struct memory {
     uint8_t state[GUARD + KUTA_STATE + GUARD];
-    uint8_t one[GUARD + MOST + GUARD];   /* the area low, or first */
-    uint8_t other[GUARD + MOST + GUARD]; /* the area high, or second */
-    uint8_t line[GUARD + MOST + GUARD];  /* octets of the line, or a packet */
+    uint8_t one[GUARD + MOST_PLAIN + GUARD]; /* the area low, or first, or that of a plain sender; or the plain sender of a pair */
+    uint8_t other[GUARD + MOST + GUARD];     /* the area high, or second */
+    uint8_t line[GUARD + MOST + GUARD];      /* octets of the line, or a packet, or a sending map */
 };
 
 /* The lengths that go with it. A part of length 0 is handed over as NULL. */
 struct lengths {
     size_t one, other, line;
 };
+
+static const struct lengths nothing_lent = {0, 0, 0};
 
 static uint8_t *part(uint8_t *guarded, size_t length) { return length == 0 ? NULL : guarded + GUARD; }
 
@@ -143,9 +146,11 @@ static int is_valid(const uint8_t *state) { return is_width(state[1]) && is_limi
 
 /* Where nothing is held the register is at its start. */
 static int receiver_spelled(const uint8_t *s) {
-    if (s[0] != 1 || s[10] > 1 || s[13] > 1 || s[22] > 2 || s[23] > 1 || s[24] > 1) return 0;
+    if (s[0] != 1 || s[5] > KUTA_MODE_ESCAPED || s[10] > 1 || s[13] > 1 || s[22] > 2 || s[23] > 1 || s[24] > 1) return 0;
     return s[13] == 1 || long_at(s + 16) == register_start(s[1]);
 }
+
+static int reads_plain(const uint8_t *s) { return s[5] == KUTA_MODE_PLAIN || s[5] == KUTA_MODE_ESCAPED; }
 
 static int receiver_in_bounds(const uint8_t *s) {
     const unsigned decoded = number_at(s + 11), left = s[20], zeros = s[21], last = s[22], resumed = s[24], refusal = s[25];
@@ -154,8 +159,10 @@ static int receiver_in_bounds(const uint8_t *s) {
     if (decoded > most || (held && number_at(s + 14) > most) || left > 207 || zeros > 2) return 0;
     if (held && long_at(s + 16) > register_start(s[1])) return 0;
     if (refusal != 0 && refusal != KUTA_AREA_CHANGED && (refusal < KUTA_PLAIN_FRAME || refusal > KUTA_TOO_LONG)) return 0;
-    if (refusal == KUTA_PLAIN_FRAME && held) return 0;
-    if (!in_frame) return decoded == 0 && left == 0 && zeros == 0 && last == 0 && resumed == 0 && refusal == 0;
+    if (refusal == KUTA_PLAIN_FRAME && (held || s[5] != KUTA_MODE_OFF)) return 0;
+    if (!in_frame)
+        return decoded == 0 && left == 0 && zeros == 0 && last == 0 && resumed == 0 && refusal == 0 && s[5] != KUTA_MODE_ESCAPED;
+    if (reads_plain(s)) return left == 0 && zeros == 0 && last == 0;
     if (refusal != 0) return 1;
     return last == 0 ? resumed == 1 : last == 1 || left > 0 || decoded > 0;
 }
@@ -182,6 +189,54 @@ static int sender_in_bounds(const uint8_t *s) {
 /* Of octets with a valid width and limit. */
 static int stands(enum end end, const uint8_t *state) {
     return end == RECEIVER ? receiver_spelled(state) && receiver_in_bounds(state) : sender_spelled(state) && sender_in_bounds(state);
+}
+
+/* ---- Maps */
+
+static int is_removed(uint32_t map, unsigned octet) { return octet < 0x20 && (map >> octet & 1) == 1; }
+
+static int is_marked(const uint8_t *marks, unsigned octet) { return (marks[octet / 8] >> octet % 8 & 1) == 1; }
+
+static void mark(uint8_t *marks, unsigned octet) { marks[octet / 8] = (uint8_t)(marks[octet / 8] | 1u << octet % 8); }
+
+static void unmark(uint8_t *marks, unsigned octet) { marks[octet / 8] = (uint8_t)(marks[octet / 8] & ~(1u << octet % 8)); }
+
+static int may_be_marked(unsigned octet) { return octet != (FLAG ^ 0x20) && (octet < 0x20 || octet >= 0x40); }
+
+static int is_sending_map(const uint8_t *marks) {
+    unsigned octet;
+    for (octet = 0; octet < 256; octet++)
+        if (is_marked(marks, octet) && !may_be_marked(octet)) return 0;
+    return 1;
+}
+
+static int covers(const uint8_t *marks, uint32_t map) {
+    unsigned octet;
+    for (octet = 0; octet < 0x20; octet++)
+        if (is_removed(map, octet) && !is_marked(marks, octet)) return 0;
+    return 1;
+}
+
+static uint32_t draw_map(void) {
+    switch (below(4)) {
+    case 0: return 0;
+    case 1: return 0xFFFFFFFF;
+    case 2: return (uint32_t)1 << below(32);
+    default: return draw();
+    }
+}
+
+/* A sending map that goes with the receiving one. */
+static void draw_marks(uint8_t *marks, uint32_t map) {
+    const unsigned drawn = below(4);
+    unsigned octet;
+    memset(marks, drawn == 0 ? 0xFF : 0, KUTA_MARKS);
+    if (drawn == 1) draw_octets(marks, KUTA_MARKS);
+    if (drawn == 2) mark(marks, below(256));
+    for (octet = 0; octet < 256; octet++) {
+        if (is_removed(map, octet)) mark(marks, octet);
+        if (!may_be_marked(octet)) unmark(marks, octet);
+    }
 }
 
 /* ---- The calls, each on a memory and lengths */
@@ -300,7 +355,9 @@ static int is_answer_of(enum call call, uint32_t answer) {
     case RECEIVE:
     case READ_ON:
         return answer == KUTA_QUIET || kind == KUTA_PACKET || kind == KUTA_HELD ||
-               (kind == KUTA_REFUSED && ((value >= KUTA_PLAIN_FRAME && value <= KUTA_BAD_CHECK) || value == KUTA_AREA_CHANGED));
+               (kind == KUTA_REFUSED && value == KUTA_PLAIN_FRAME && before.state[GUARD + 5] == KUTA_MODE_OFF) ||
+               (kind == KUTA_REFUSED && value == KUTA_ESCAPE_OPEN && before.state[GUARD + 5] != KUTA_MODE_OFF) ||
+               (kind == KUTA_REFUSED && ((value > KUTA_PLAIN_FRAME && value <= KUTA_BAD_CHECK) || value == KUTA_AREA_CHANGED));
     case LOAD_LOW:
     case LOAD_HIGH: return answer == (uint32_t)KUTA_DONE << 24;
     case NEXT:
@@ -317,11 +374,16 @@ static int is_delivered(const struct memory *m, uint32_t answer) {
     return is_good(state[1], (kuta_mark(answer) ? m->other : m->one) + GUARD, length + fcs_octets(state[1]));
 }
 
-/* What is held after an octet that is no flag: nothing if it begins a frame and is FF, or D1 with preemption on; else what was. */
+/* In which mode a receiver may come to be. */
+static int changes_over_rightly(const uint8_t *was, const uint8_t *is) {
+    return was[5] == KUTA_MODE_OFF ? is[5] == KUTA_MODE_OFF : is[5] == was[5] || reads_plain(is);
+}
+
+/* What is held in COBS after an octet that is no flag: nothing if it begins a frame and is FF, or D1 with preemption on; else what was. */
 static int holds_rightly(const uint8_t *was, const uint8_t *is, uint8_t octet) {
     const int begins = was[23] == 0;
-    if (octet == FLAG) return 1;
-    if (was[13] == 0 || (begins && (octet == 0xFF || (octet == 0xD1 && (was[4] & KUTA_PRE))))) return is[13] == 0;
+    if (octet == FLAG || reads_plain(was)) return 1;
+    if (was[13] == 0 || (begins && (octet == RESTART || (octet == 0xD1 && (was[4] & KUTA_PRE))))) return is[13] == 0;
     return memcmp(is + 13, was + 13, 7) == 0;
 }
 
@@ -333,7 +395,7 @@ static uint32_t register_held(const uint8_t *state, const struct memory *m) {
 /* A D1 that begins a frame, with preemption on and something held: the held area works from then on, if its octets give the register that
  * is carried; else the frame is refused 21, and the areas do not change turns. */
 static int resumes_rightly(const uint8_t *was, const uint8_t *is, const struct memory *m, uint8_t octet) {
-    if (octet != 0xD1 || was[23] == 1 || was[13] == 0 || !(was[4] & KUTA_PRE)) return 1;
+    if (octet != 0xD1 || was[23] == 1 || was[13] == 0 || !(was[4] & KUTA_PRE) || reads_plain(was)) return 1;
     if (is[23] != 1 || is[24] != 1) return 0;
     if (long_at(was + 16) == register_held(was, m)) return is[25] == 0 && is[10] != was[10] && number_at(is + 11) == number_at(was + 14);
     return is[25] == KUTA_AREA_CHANGED && is[10] == was[10] && number_at(is + 11) == 0;
@@ -342,6 +404,91 @@ static int resumes_rightly(const uint8_t *was, const uint8_t *is, const struct m
 /* After Held, the register that is carried is the one of what is held. */
 static int carries_rightly(const uint8_t *is, const struct memory *m) { return is[13] == 1 && long_at(is + 16) == register_held(is, m); }
 
+/* ---- Plain PPP, and the FF that leads there: all that a call for such an octet does, if it is not refused */
+
+static void let_go(uint8_t *s) {
+    memset(s + 13, 0, 3);
+    put_long(s + 16, register_start(s[1]));
+}
+
+/* An octet of the frame; what would be too many is not written. */
+static void put_plain(struct memory *m, uint8_t octet) {
+    uint8_t *const s = m->state + GUARD;
+    const unsigned decoded = number_at(s + 11);
+    s[23] = 1;
+    if (decoded >= longest_frame(s[1], limit_of(s))) {
+        s[25] = KUTA_TOO_LONG;
+    } else {
+        (s[10] == 1 ? m->other : m->one)[GUARD + decoded] = octet;
+        put_number(s + 11, decoded + 1);
+    }
+}
+
+/* The number by which a frame is refused at its flag, or 0. */
+static unsigned plain_refusal(const struct memory *m) {
+    const uint8_t *const s = m->state + GUARD;
+    const unsigned decoded = number_at(s + 11);
+    if (s[25] != 0) return s[25];
+    if (decoded > longest_frame(s[1], limit_of(s))) return KUTA_TOO_LONG;
+    if (s[5] == KUTA_MODE_ESCAPED) return KUTA_ESCAPE_OPEN;
+    if (decoded < shortest_frame(s[1])) return KUTA_TOO_SHORT;
+    return is_good(s[1], (s[10] == 1 ? m->other : m->one) + GUARD, decoded) ? 0 : KUTA_BAD_CHECK;
+}
+
+static uint32_t end_plain(struct memory *m) {
+    uint8_t *const s = m->state + GUARD;
+    const unsigned refusal = plain_refusal(m), length = number_at(s + 11) - fcs_octets(s[1]);
+    if (s[24] == 1) let_go(s);
+    s[5] = KUTA_MODE_PLAIN;
+    put_number(s + 11, 0);
+    memset(s + 20, 0, 6);
+    if (refusal != 0) return (uint32_t)KUTA_REFUSED << 24 | refusal;
+    return (uint32_t)KUTA_PACKET << 24 | (uint32_t)s[10] << 16 | length;
+}
+
+static void begin_with_FF(struct memory *m) {
+    uint8_t *const s = m->state + GUARD;
+    let_go(s);
+    s[23] = 1;
+    if (s[5] == KUTA_MODE_OFF) {
+        s[25] = KUTA_PLAIN_FRAME;
+    } else {
+        s[5] = KUTA_MODE_PLAIN;
+        put_plain(m, RESTART);
+    }
+}
+
+static uint32_t read_plainly(struct memory *m, uint8_t octet) {
+    uint8_t *const s = m->state + GUARD;
+    if (s[13] == 0) put_number(s + 14, 0);
+    if (!reads_plain(s)) {
+        begin_with_FF(m);
+    } else if (octet == FLAG) {
+        if (s[23] == 1) return end_plain(m);
+    } else if (s[25] != 0 || is_removed(long_at(s + 6), octet)) {
+        /* nothing changes */
+    } else if (s[5] == KUTA_MODE_ESCAPED) {
+        s[5] = KUTA_MODE_PLAIN;
+        put_plain(m, octet ^ 0x20);
+    } else if (octet == ESCAPE) {
+        s[5] = KUTA_MODE_ESCAPED;
+        s[23] = 1;
+    } else {
+        put_plain(m, octet);
+    }
+    return KUTA_QUIET;
+}
+
+/* Of other octets nothing is said here. */
+static void check_plain(const struct memory *m, struct lengths n, uint32_t answer) {
+    static struct memory expected;
+    const uint8_t *const was = before.state + GUARD, octet = m->line[GUARD];
+    if (!reads_plain(was) && (was[23] == 1 || octet != RESTART)) return;
+    copy(&expected, &before, n);
+    check(read_plainly(&expected, octet) == answer, "plain PPP, the answer", "receive", n);
+    check(same(m, &expected, n), "plain PPP, the memory", "receive", n);
+}
+
 /* A call that was not refused. */
 static void check_taken(enum call call, const struct memory *m, struct lengths n, kuta_stretch got) {
     const char *const name = call_names[call];
@@ -349,11 +496,16 @@ static void check_taken(enum call call, const struct memory *m, struct lengths n
     check(is_answer_of(call, got.answer), "an answer that it has", name, n);
     check(only_its_own(call, m, n, got.octets), "nothing else is changed", name, n);
     check(memcmp(m->state + GUARD + 1, before.state + GUARD + 1, 4) == 0, "width, limit and settings stay", name, n);
+    if (end_of(call) == RECEIVER) {
+        check(memcmp(m->state + GUARD + 6, before.state + GUARD + 6, 4) == 0, "the map stays", name, n);
+        check(changes_over_rightly(before.state + GUARD, m->state + GUARD), "what is read", name, n);
+    }
     check(stands(end_of(call), m->state + GUARD), "the state stays in bounds", name, n);
     if (call == LOAD_LOW) check(has_frame(width, m->one + GUARD, m->line + GUARD, n.line), "the frame is loaded", name, n);
     if (call == LOAD_HIGH) check(has_frame(width, m->other + GUARD, m->line + GUARD, n.line), "the frame is loaded", name, n);
     if (call == RECEIVE) check(holds_rightly(before.state + GUARD, m->state + GUARD, m->line[GUARD]), "what is held", name, n);
     if (call == RECEIVE) check(resumes_rightly(before.state + GUARD, m->state + GUARD, m, m->line[GUARD]), "what is resumed", name, n);
+    if (call == RECEIVE) check_plain(m, n, got.answer);
     if (kuta_kind(got.answer) == KUTA_HELD) check(carries_rightly(m->state + GUARD, m), "the register of what is held", name, n);
     if (kuta_kind(got.answer) == KUTA_PACKET) check(is_delivered(m, got.answer), "a packet and its FCS", name, n);
     if (kuta_kind(got.answer) == KUTA_IDLE) check(same(m, &before, n), "Idle changes nothing", name, n);
@@ -398,26 +550,46 @@ static void try_out(enum call call, struct memory *m, size_t one, size_t other, 
     copy(m, &before, n);
 }
 
-static uint32_t open_end(enum end end, struct memory *m, uint8_t settings, uint8_t width, uint16_t limit) {
+static uint32_t open_end(enum end end, struct memory *m, uint8_t settings, uint8_t width, uint16_t limit, uint8_t plain, uint32_t map) {
     uint8_t *const state = m->state + GUARD;
-    return end == RECEIVER ? kuta_receiver_open(state, settings, width, limit) : kuta_sender_open(state, settings, width, limit);
+    return end == RECEIVER ? kuta_receiver_open(state, settings, width, limit, plain, map) : kuta_sender_open(state, settings, width, limit);
+}
+
+static void put_head(uint8_t *state, uint8_t width, uint16_t limit) {
+    state[0] = 1;
+    state[1] = width;
+    put_number(state + 2, limit);
+}
+
+/* A fresh state: what the layout lists is written, and nothing else. */
+static void put_fresh(enum end end, uint8_t *state, uint8_t settings, uint8_t width, uint16_t limit, int plain, uint32_t map) {
+    memset(state, 0, end == RECEIVER ? RECEIVER_OCTETS : SENDER_OCTETS);
+    put_head(state, width, limit);
+    state[4] = settings;
+    if (end == SENDER) return;
+    state[5] = plain ? KUTA_MODE_COBS : KUTA_MODE_OFF;
+    put_long(state + 6, plain ? map : 0);
+    put_long(state + 16, register_start(width));
+}
+
+static unsigned opening_refusal(uint8_t width, uint16_t limit) {
+    return !is_limit(limit) ? KUTA_BAD_LIMIT : !is_width(width) ? KUTA_BAD_STATE : 0;
 }
 
 /* An opening is done whatever the octets were, and writes what the layout lists. It is refused for its limit, then for its width. */
 static void try_open(enum end end, struct memory *m, uint8_t width, uint16_t limit) {
-    static const struct lengths none = {0, 0, 0};
     static struct memory expected;
+    const struct lengths none = nothing_lent;
     const char *const name = end == RECEIVER ? "receiver_open" : "sender_open";
-    const uint8_t settings = (uint8_t)(draw() >> 24), head[] = {1, width, (uint8_t)(limit & 255), (uint8_t)(limit >> 8), settings};
-    const unsigned refusal = !is_limit(limit) ? KUTA_BAD_LIMIT : !is_width(width) ? KUTA_BAD_STATE : 0;
+    const uint8_t settings = (uint8_t)(draw() >> 24), plain = (uint8_t)(below(2) ? 0 : below(4) ? KUTA_PLAIN_ON : below(256));
+    const uint32_t map = draw_map();
+    const unsigned refusal = opening_refusal(width, limit);
     uint32_t answer;
     copy(&before, m, none);
     copy(&expected, m, none);
-    answer = open_end(end, m, settings, width, limit);
+    answer = open_end(end, m, settings, width, limit, plain, map);
     if (refusal == 0) {
-        memset(expected.state + GUARD, 0, end == RECEIVER ? RECEIVER_OCTETS : SENDER_OCTETS);
-        memcpy(expected.state + GUARD, head, sizeof head);
-        if (end == RECEIVER) put_long(expected.state + GUARD + 16, register_start(width));
+        put_fresh(end, expected.state + GUARD, settings, width, limit, plain, map);
         check(answer == (uint32_t)KUTA_DONE << 24, "it is done", name, none);
         check(same(m, &expected, none), "a fresh state", name, none);
     } else {
@@ -485,9 +657,10 @@ static void try_state_once(enum end end, struct memory *m) {
 
 /* ---- Many states */
 
-/* Octets as a line has them: many codes, flags, zeros. */
+/* Octets as a line has them: many codes, flags, escapes, zeros. */
 static void draw_line(struct memory *m, size_t count) {
-    static const uint8_t often[] = {0x00, 0x01, 0x02, 0x03, 0x05, 0x7E, 0xCF, 0xD0, 0xD1, 0xD2, 0xD3, 0xDF, 0xE0, 0xE1, 0xFE, 0xFF};
+    static const uint8_t often[] = {0x00, 0x01, 0x02, 0x03, 0x05, 0x11, 0x5D, 0x5E, 0x7D, 0x7D, 0x7E,
+                                    0x7E, 0xCF, 0xD0, 0xD1, 0xD2, 0xD3, 0xDF, 0xE0, 0xE1, 0xFE, 0xFF};
     size_t i;
     draw_octets(m->line + GUARD, count);
     for (i = 0; i < count; i++)
@@ -515,26 +688,75 @@ static void try_openings(enum end end, struct memory *m) {
     }
 }
 
-/* An opened state with each of the limits in it. */
+/* An end as it is in each mode: opened, and of a receiver in the last two behind FF and behind FF 7D. A sender has the first alone. */
+static void bring_to(unsigned mode, enum end end, struct memory *m, uint8_t width, uint16_t limit) {
+    static const uint8_t octets[] = {RESTART, ESCAPE};
+    const size_t area = least_area(RECEIVER, width, limit);
+    unsigned i;
+    draw_octets(m->state + GUARD, KUTA_STATE);
+    open_end(end, m, KUTA_ZXE | KUTA_PRE, width, limit, mode == KUTA_MODE_OFF ? KUTA_PLAIN_OFF : KUTA_PLAIN_ON, draw_map());
+    for (i = KUTA_MODE_COBS; i < mode; i++)
+        kuta_receive(m->state + GUARD, octets[i - KUTA_MODE_COBS], m->one + GUARD, area, m->other + GUARD, area);
+    if (end == RECEIVER) check(kuta_mode(m->state + GUARD) == mode, "the mode", "receive", nothing_lent);
+}
+
+static unsigned modes_of(enum end end) { return end == RECEIVER ? KUTA_MODE_ESCAPED + 1 : 1; }
+
+/* An end in each mode with each of the limits in it. */
 static void try_limits(enum end end, struct memory *m, uint8_t width) {
+    unsigned mode;
     size_t i;
-    for (i = 0; i < LENGTH(limits); i++) {
-        draw_octets(m->state + GUARD, KUTA_STATE);
-        open_end(end, m, KUTA_ZXE | KUTA_PRE, width, KUTA_DEFAULT_LIMIT);
-        put_number(m->state + GUARD + 2, limits[i]);
-        try_state(end, m);
+    for (mode = 0; mode < modes_of(end); mode++) {
+        for (i = 0; i < LENGTH(limits); i++) {
+            bring_to(mode, end, m, width, KUTA_DEFAULT_LIMIT);
+            put_number(m->state + GUARD + 2, limits[i]);
+            try_state(end, m);
+        }
     }
 }
 
-/* Each of the first octets of an opened state, changed to each value. */
+/* Each of the first octets of an end in each mode, changed to each value. */
 static void try_changed_octets(enum end end, struct memory *m, uint8_t width, uint16_t limit, unsigned octets) {
-    unsigned place, value;
-    for (place = 0; place < octets; place++) {
-        for (value = 0; value < 256; value++) {
-            draw_octets(m->state + GUARD, KUTA_STATE);
-            open_end(end, m, KUTA_ZXE | KUTA_PRE, width, limit);
-            m->state[GUARD + place] = (uint8_t)value;
-            try_state(end, m);
+    unsigned mode, place, value;
+    for (mode = 0; mode < modes_of(end); mode++) {
+        for (place = 0; place < octets; place++) {
+            for (value = 0; value < 256; value++) {
+                bring_to(mode, end, m, width, limit);
+                m->state[GUARD + place] = (uint8_t)value;
+                try_state(end, m);
+            }
+        }
+    }
+}
+
+/* A frame of plain PPP, or one that COBS has begun with plain reading on, with counts at and beyond their bounds, each refusal remembered,
+ * resumed or not, something held or nothing; and each octet that is another one there. */
+static void try_plain_edges(struct memory *m, uint8_t width, uint16_t limit) {
+    static const uint8_t octets[] = {FLAG, ESCAPE, RESTART, 0x00, 0x11, 0x1F, 0x20, 0x31, 0x5D, 0x5E, 0xD1};
+    const unsigned longest = longest_frame(width, limit), shortest = shortest_frame(width);
+    const unsigned counts[] = {0, 1, shortest - 1, shortest, longest - 1, longest, longest + 1, longest + 2};
+    const size_t area = least_area(RECEIVER, width, limit);
+    uint8_t *const s = m->state + GUARD;
+    unsigned mode, refusal, marks;
+    size_t i, j;
+    for (mode = KUTA_MODE_OFF; mode <= KUTA_MODE_ESCAPED; mode++) {
+        for (refusal = 0; refusal < 32; refusal++) {
+            for (marks = 0; marks < 8; marks++) { /* in a frame, resumed, something held */
+                for (i = 0; i < LENGTH(counts); i++) {
+                    draw_octets(s, KUTA_STATE);
+                    put_fresh(RECEIVER, s, KUTA_ZXE | KUTA_PRE, width, limit, mode != KUTA_MODE_OFF, draw_map());
+                    s[5] = (uint8_t)mode;
+                    put_number(s + 11, counts[i]);
+                    s[13] = marks >> 2 & 1;
+                    s[23] = marks & 1;
+                    s[24] = marks >> 1 & 1;
+                    s[25] = (uint8_t)refusal;
+                    for (j = 0; j < LENGTH(octets); j++) {
+                        m->line[GUARD] = octets[j];
+                        try_out(RECEIVE, m, area, area, 1);
+                    }
+                }
+            }
         }
     }
 }
@@ -569,14 +791,18 @@ static void draw_counts_and_marks(uint8_t *s) {
     unsigned most;
     draw_state(s);
     most = is_valid(s) ? most_decoded(s[1], limit_of(s)) : below(16);
+    s[5] = (uint8_t)below(below(32) == 0 ? 6 : in_frame || below(8) == 0 ? 4 : 3);
+    put_long(s + 6, draw_map());
     s[10] = (uint8_t)below(2);
     s[13] = (uint8_t)below(2);
     put_number(s + 14, draw_count(most));
     memset(s + 20, 0, 6);
     put_number(s + 11, in_frame ? draw_count(most) : 0);
     if (!in_frame) return;
-    draw_block(s + 20, s + 21, 207);
-    s[22] = (uint8_t)below(3);
+    if (!reads_plain(s) || below(16) == 0) {
+        draw_block(s + 20, s + 21, 207);
+        s[22] = (uint8_t)below(3);
+    }
     s[23] = 1;
     s[24] = (uint8_t)below(2);
     s[25] = (uint8_t)(below(4) == 0 ? 4 + below(8) : below(12) == 0 ? 20 + below(3) : 0);
@@ -591,9 +817,21 @@ static void draw_register(struct memory *m) {
     put_long(s + 16, drawn < 5 ? due : drawn < 6 ? draw() & register_start(s[1]) : drawn < 7 ? due + 1 : draw());
 }
 
+/* Of one that reads plain PPP the work area has often a frame whose FCS fits. */
+static void draw_frame(struct memory *m) {
+    const uint8_t *const s = m->state + GUARD;
+    const unsigned decoded = number_at(s + 11);
+    uint8_t *const area = (s[10] == 1 ? m->other : m->one) + GUARD;
+    uint8_t check_sequence[4];
+    if (!is_valid(s) || !reads_plain(s) || decoded < shortest_frame(s[1]) || decoded > most_decoded(s[1], limit_of(s)) || below(2)) return;
+    put_long(check_sequence, ~register_over(s[1], register_start(s[1]), area, decoded - fcs_octets(s[1])));
+    memcpy(area + decoded - fcs_octets(s[1]), check_sequence, fcs_octets(s[1]));
+}
+
 /* A receiver that may well stand; what it does not look at is anything. */
 static void draw_receiver(struct memory *m) {
     draw_counts_and_marks(m->state + GUARD);
+    draw_frame(m);
     draw_register(m);
 }
 
@@ -673,7 +911,8 @@ static int is_on_its_way(const uint8_t *packet, size_t length) {
 static unsigned read_all(const uint8_t *octets, size_t count) {
     unsigned packets = 0;
     while (count > 0) {
-        const struct lengths n = lent(RECEIVER, &receiving, count < 40 || below(2) ? count : 1 + below((unsigned)count));
+        const size_t most = count < MOST ? count : (size_t)MOST;
+        const struct lengths n = lent(RECEIVER, &receiving, most < 40 || below(2) ? most : 1 + below((unsigned)most));
         kuta_stretch stretch;
         memcpy(receiving.line + GUARD, octets, n.line);
         stretch = try_call(READ_ON, &receiving, n);
@@ -691,12 +930,11 @@ enum { STEPS_TO_EMPTY = 200 }; /* for what is loaded at last; much more than two
 
 /* Damage: one of so many stretches has an octet changed; 0 none. */
 static void run_session(uint8_t settings, uint8_t width, uint16_t limit, unsigned steps, unsigned damage) {
-    static const struct lengths none = {0, 0, 0};
     uint8_t octets[MOST];
     unsigned step;
     loaded = delivered = 0;
-    open_end(SENDER, &sending, settings, width, limit);
-    open_end(RECEIVER, &receiving, settings, width, limit);
+    open_end(SENDER, &sending, settings, width, limit, 0, 0);
+    open_end(RECEIVER, &receiving, settings, width, limit, KUTA_PLAIN_OFF, 0);
     for (step = 0; step < steps + STEPS_TO_EMPTY; step++) {
         kuta_stretch stretch;
         if (step < steps && below(2)) load_a_packet(0, limit);
@@ -706,7 +944,7 @@ static void run_session(uint8_t settings, uint8_t width, uint16_t limit, unsigne
         if (damage > 0 && stretch.octets > 0 && below(damage) == 0) octets[below((unsigned)stretch.octets)] = (uint8_t)below(256);
         delivered += read_all(octets, stretch.octets);
     }
-    if (damage == 0) check(delivered == loaded && loaded > 0, "all that was loaded is delivered", "both ends", none);
+    if (damage == 0) check(delivered == loaded && loaded > 0, "all that was loaded is delivered", "both ends", nothing_lent);
 }
 
 static void run_sessions(uint8_t width, uint16_t limit, unsigned steps) {
@@ -715,6 +953,242 @@ static void run_sessions(uint8_t width, uint16_t limit, unsigned steps) {
         run_session(settings, width, limit, steps, 0);
         run_session(settings, width, limit, steps, 4);
     }
+}
+
+/* ---- Plain PPP, sent */
+
+/* The octets that a plain sender's packet takes on the line, by its width and marks; answers how many. */
+static size_t stuff(const uint8_t *s, const uint8_t *packet, size_t length, uint8_t *line) {
+    uint8_t frame[MOST + 4];
+    size_t i, count = 0;
+    memcpy(frame, packet, length);
+    put_long(frame + length, ~register_over(s[1], register_start(s[1]), packet, length));
+    for (i = 0; i < length + fcs_octets(s[1]); i++) {
+        const int marked = is_marked(s + 4, frame[i]);
+        if (marked) line[count++] = ESCAPE;
+        line[count++] = marked ? frame[i] ^ 0x20 : frame[i];
+    }
+    line[count++] = FLAG;
+    return count;
+}
+
+static unsigned due_plain_refusal(const uint8_t *s, size_t packet, size_t frame, size_t area) {
+    if (!is_valid(s)) return KUTA_BAD_STATE;
+    if (frame > area) return KUTA_SHORT_AREA;
+    if (s[0] != 1 || !is_marked(s + 4, ESCAPE) || !is_marked(s + 4, FLAG) || !is_sending_map(s + 4)) return KUTA_BAD_STATE;
+    return is_packet(packet, s) ? 0 : KUTA_BAD_LENGTH;
+}
+
+/* The packet is in the line, and the area is `one`. Answers how many octets were written. */
+static size_t try_plain_send(struct memory *m, size_t packet, size_t area) {
+    static struct memory expected;
+    static uint8_t line[MOST_PLAIN];
+    const uint8_t *const s = m->state + GUARD;
+    const size_t frame = is_valid(s) ? stuff(s, m->line + GUARD, packet, line) : 0;
+    const unsigned refusal = due_plain_refusal(s, packet, frame, area);
+    struct lengths n = nothing_lent;
+    uint32_t answer;
+    n.one = area;
+    n.line = packet;
+    copy(&before, m, n);
+    copy(&expected, m, n);
+    answer = kuta_plain_send(s, part(m->line, packet), packet, part(m->one, area), area);
+    if (refusal == 0) {
+        memcpy(expected.one + GUARD, line, frame);
+        check(answer == ((uint32_t)KUTA_WRITTEN << 24 | (uint32_t)frame) && kuta_written(answer) == frame, "the length", "plain_send", n);
+        check(same(m, &expected, n), "the frame, and nothing else", "plain_send", n);
+        check(frame <= KUTA_PLAIN_AREA(s[1], limit_of(s)), "the area that is always enough", "plain_send", n);
+        return frame;
+    }
+    check(answer == ((uint32_t)KUTA_REFUSED << 24 | refusal) && kuta_written(answer) == 0, "the refusal that is due", "plain_send", n);
+    check(same(m, &expected, n), "a refused call changes nothing", "plain_send", n);
+    return 0;
+}
+
+/* With an area that is exactly long enough, one octet too short, longer, as long as is always enough, and not there. */
+static void try_plain_areas(struct memory *m, size_t packet) {
+    static uint8_t line[MOST_PLAIN];
+    const uint8_t *const s = m->state + GUARD;
+    const size_t frame = is_valid(s) ? stuff(s, m->line + GUARD, packet, line) : 1 + below(40);
+    try_plain_send(m, packet, frame);
+    try_plain_send(m, packet, frame - 1);
+    try_plain_send(m, packet, frame + 1 + below(40));
+    try_plain_send(m, packet, below((unsigned)frame));
+    try_plain_send(m, packet, 0);
+    if (is_valid(s)) try_plain_send(m, packet, KUTA_PLAIN_AREA(s[1], limit_of(s)));
+}
+
+/* Packets at both ends of what it takes; of octets as they come, all of which are escaped often, or all the same. */
+static void try_plain_sender(struct memory *m) {
+    const uint8_t *const s = m->state + GUARD;
+    unsigned edge;
+    for (edge = 0; edge < EDGES; edge++) {
+        const size_t packet = packet_at(edge, s);
+        if (below(4) == 0) memset(m->line + GUARD, below(2) ? ESCAPE : (int)below(256), packet);
+        else if (below(2)) draw_line(m, packet);
+        else draw_octets(m->line + GUARD, packet);
+        try_plain_areas(m, packet);
+    }
+}
+
+/* A plain sender; with some marks wrong, if asked for. */
+static void draw_plain_sender(uint8_t *s, uint8_t width, uint16_t limit, int wrong) {
+    draw_octets(s, KUTA_STATE);
+    put_head(s, width, limit);
+    draw_marks(s + 4, draw_map());
+    mark(s + 4, ESCAPE);
+    mark(s + 4, FLAG);
+    if (!wrong) return;
+    switch (below(5)) {
+    case 0: unmark(s + 4, ESCAPE); break;
+    case 1: unmark(s + 4, FLAG); break;
+    case 2: mark(s + 4, FLAG ^ 0x20); break;
+    case 3: mark(s + 4, 0x20 + below(0x20)); break;
+    default: draw_octets(s + 4, KUTA_MARKS);
+    }
+}
+
+static void try_plain_senders(struct memory *m) {
+    uint8_t *const s = m->state + GUARD;
+    unsigned i, octet;
+    size_t j;
+    memset(s, 0, KUTA_STATE);
+    try_plain_sender(m);
+    memset(s, 0xFF, KUTA_STATE);
+    try_plain_sender(m);
+    for (i = 0; i < LENGTH(widths); i++) {
+        for (j = 0; j < LENGTH(limits); j++) {
+            draw_plain_sender(s, widths[i], limits[j], 0);
+            try_plain_sender(m);
+        }
+        for (octet = 0; octet < 256; octet++) { /* each mark alone beside those two, and each width and octet 0 */
+            draw_plain_sender(s, widths[i], KUTA_LEAST_PACKET, 0);
+            memset(s + 4, 0, KUTA_MARKS);
+            mark(s + 4, ESCAPE);
+            mark(s + 4, FLAG);
+            mark(s + 4, octet);
+            try_plain_sender(m);
+            draw_plain_sender(s, (uint8_t)octet, draw_limit(), 0);
+            try_plain_sender(m);
+            draw_plain_sender(s, widths[i], KUTA_LEAST_PACKET + below(19), below(2));
+            s[0] = (uint8_t)octet;
+            try_plain_sender(m);
+        }
+    }
+    for (i = 0; i < 20000; i++) {
+        draw_plain_sender(s, draw_width(), draw_limit(), below(4) == 0);
+        if (below(16) == 0) s[below(PLAIN_OCTETS)] = (uint8_t)below(256);
+        try_plain_sender(m);
+    }
+}
+
+/* ---- The opening of a pair: the receiver is in the state, the plain sender in `one`, the sending map in the line */
+
+static void try_pair(struct memory *m, uint8_t width, uint16_t limit, uint32_t map) {
+    static struct memory expected;
+    const uint8_t *const marks = m->line + GUARD, settings = (uint8_t)(draw() >> 24);
+    const int maps_agree = covers(marks, map) && is_sending_map(marks);
+    const unsigned refusal = opening_refusal(width, limit) != 0 ? opening_refusal(width, limit) : maps_agree ? 0 : KUTA_BAD_MAPS;
+    uint8_t *const pair_sender = expected.one + GUARD;
+    struct lengths n = nothing_lent;
+    uint32_t answer;
+    n.one = KUTA_STATE;
+    n.line = KUTA_MARKS;
+    copy(&before, m, n);
+    copy(&expected, m, n);
+    answer = kuta_pair_open(m->one + GUARD, m->state + GUARD, settings, width, limit, map, marks);
+    if (refusal == 0) {
+        put_head(pair_sender, width, limit);
+        memcpy(pair_sender + 4, marks, KUTA_MARKS);
+        mark(pair_sender + 4, ESCAPE);
+        mark(pair_sender + 4, FLAG);
+        put_fresh(RECEIVER, expected.state + GUARD, settings, width, limit, 1, map);
+        check(answer == (uint32_t)KUTA_DONE << 24, "it is done", "pair_open", n);
+        check(same(m, &expected, n), "two fresh states", "pair_open", n);
+    } else {
+        check(answer == ((uint32_t)KUTA_REFUSED << 24 | refusal), "the refusal that is due", "pair_open", n);
+        check(same(m, &expected, n), "a refused opening changes nothing", "pair_open", n);
+    }
+    copy(m, &before, n);
+}
+
+/* Each mark alone, with no receiving map, with that octet's bit and with all bits; each bit lacking; each width, each limit; any. */
+static void try_pairs(struct memory *m) {
+    uint8_t *const marks = m->line + GUARD;
+    unsigned octet, limit, i;
+    for (octet = 0; octet < 256; octet++) {
+        memset(marks, 0, KUTA_MARKS);
+        mark(marks, octet);
+        try_pair(m, 16, KUTA_DEFAULT_LIMIT, 0);
+        try_pair(m, 32, KUTA_DEFAULT_LIMIT, (uint32_t)1 << octet % 32);
+        try_pair(m, 16, KUTA_LEAST_PACKET, 0xFFFFFFFF);
+        try_pair(m, (uint8_t)octet, KUTA_LARGEST_LIMIT, 0);
+        memset(marks, 0, KUTA_MARKS);
+        memset(marks, 0xFF, 4);
+        unmark(marks, octet % 32);
+        try_pair(m, 32, KUTA_LARGEST_LIMIT, (uint32_t)1 << octet % 32);
+        try_pair(m, 32, KUTA_LARGEST_LIMIT, ~((uint32_t)1 << octet % 32));
+    }
+    for (limit = 0; limit < 65536; limit++) {
+        const uint32_t map = draw_map();
+        draw_marks(marks, map);
+        try_pair(m, draw_width(), (uint16_t)limit, map);
+        try_pair(m, draw_width(), (uint16_t)limit, draw_map());
+    }
+    for (i = 0; i < 50000; i++) {
+        draw_octets(m->one + GUARD, KUTA_STATE);
+        draw_octets(m->state + GUARD, KUTA_STATE);
+        draw_marks(marks, draw());
+        if (below(2)) mark(marks, below(256));
+        if (below(2)) unmark(marks, below(256));
+        if (below(8) == 0) draw_octets(marks, KUTA_MARKS);
+        try_pair(m, draw_width(), draw_limit(), draw_map());
+    }
+}
+
+/* ---- A pair, joined: packets in plain PPP, with removed octets put in between */
+
+static uint8_t plain_line[2 * MOST_PLAIN];
+
+/* The line of the packet that was sent last, with octets put in that the map removes; answers how many octets it has. */
+static size_t with_removed(size_t count, uint32_t map) {
+    size_t i, length = 0;
+    for (i = 0; i < count; i++) {
+        const unsigned octet = below(32);
+        if (is_removed(map, octet) && below(4) == 0) plain_line[length++] = (uint8_t)octet;
+        plain_line[length++] = sending.one[GUARD + i];
+    }
+    return length;
+}
+
+static void run_plain_session(uint8_t width, uint16_t limit, uint32_t map, unsigned packets, unsigned damage) {
+    static const uint8_t restart[] = {RESTART, FLAG};
+    uint8_t marks[KUTA_MARKS];
+    unsigned i;
+    loaded = delivered = 0;
+    draw_marks(marks, map);
+    kuta_pair_open(sending.state + GUARD, receiving.state + GUARD, 0, width, limit, map, marks);
+    sent_length[1] = 0;
+    read_all(restart, sizeof restart);
+    check(kuta_mode(receiving.state + GUARD) == KUTA_MODE_PLAIN, "plain PPP behind FF and a flag", "a pair", nothing_lent);
+    for (i = 0; i < packets; i++) {
+        const size_t lengths[] = {2, 3, 2 + below(limit - 1), limit, limit + 1u}; /* some are too long, and refused */
+        size_t count;
+        sent_length[0] = lengths[below(LENGTH(lengths))];
+        draw_line(&sending, sent_length[0]);
+        memcpy(sent[0], sending.line + GUARD, sent_length[0] <= limit ? sent_length[0] : 0);
+        count = with_removed(try_plain_send(&sending, sent_length[0], KUTA_PLAIN_AREA(width, limit)), map);
+        if (count == 0) continue;
+        loaded++;
+        if (damage > 0 && below(damage) == 0) plain_line[below((unsigned)count)] = (uint8_t)below(256);
+        delivered += read_all(plain_line, count);
+    }
+    if (damage == 0) check(delivered == loaded && loaded > 0, "all that was sent is delivered", "a pair", nothing_lent);
+}
+
+static void run_plain_sessions(uint8_t width, uint16_t limit, unsigned packets) {
+    unsigned i;
+    for (i = 0; i < 8; i++) run_plain_session(width, limit, draw_map(), packets, i < 4 ? 0 : 3);
 }
 
 /* ---- pppfcs16 and pppfcs32 */
@@ -749,8 +1223,10 @@ static void try_end(enum end end, struct memory *m) {
         try_limits(end, m, widths[i]);
         try_changed_octets(end, m, widths[i], KUTA_LEAST_PACKET, KUTA_STATE);
         try_changed_octets(end, m, widths[i], KUTA_DEFAULT_LIMIT, SENDER_OCTETS);
+        if (end == RECEIVER) try_plain_edges(m, widths[i], KUTA_LEAST_PACKET);
+        if (end == RECEIVER) try_plain_edges(m, widths[i], KUTA_LEAST_PACKET + 9);
     }
-    try_drawn_states(end, m, 300000);
+    try_drawn_states(end, m, end == RECEIVER ? 400000 : 300000);
 }
 
 int main(void) {
@@ -759,11 +1235,16 @@ int main(void) {
     draw_octets((uint8_t *)&memory, sizeof memory);
     try_end(RECEIVER, &memory);
     try_end(SENDER, &memory);
+    try_plain_senders(&memory);
+    try_pairs(&memory);
     try_check_sequences(&memory);
     for (i = 0; i < LENGTH(widths); i++) {
         run_sessions(widths[i], KUTA_LEAST_PACKET, 5000);
         run_sessions(widths[i], KUTA_DEFAULT_LIMIT, 5000);
         run_sessions(widths[i], KUTA_LARGEST_LIMIT, 200);
+        run_plain_sessions(widths[i], KUTA_LEAST_PACKET, 2000);
+        run_plain_sessions(widths[i], KUTA_DEFAULT_LIMIT, 200);
+        run_plain_sessions(widths[i], KUTA_LARGEST_LIMIT, 20);
     }
     printf("bad input: %lu passed, %lu failed\n", passed, failed);
     return failed == 0 && fclose(stdout) == 0 ? 0 : 1;

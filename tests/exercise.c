@@ -8,7 +8,7 @@
 
 #define LENGTH(array) (sizeof(array) / sizeof(array)[0])
 
-/* ---- Both ends, and the areas that they are lent */
+/* ---- Both ends and the plain sender, and the areas that they are lent */
 
 enum { END_AREA = 20480, OUT_AREA = 40960 };
 enum { LOW, HIGH, FIRST, SECOND, OUT };
@@ -18,7 +18,7 @@ struct area {
     size_t whole, lent;
 };
 
-static uint8_t sender[KUTA_STATE], receiver[KUTA_STATE];
+static uint8_t sender[KUTA_STATE], receiver[KUTA_STATE], plain_sender[KUTA_STATE];
 static uint8_t low[END_AREA], high[END_AREA], first[END_AREA], second[END_AREA], out[OUT_AREA];
 static struct area areas[] = {
     {low, END_AREA, KUTA_SENDER_AREA(KUTA_DEFAULT_WIDTH, KUTA_DEFAULT_LIMIT)},
@@ -53,6 +53,11 @@ static void print_packet(unsigned place, unsigned length) {
     print_part(&areas[FIRST + place], 0, length);
 }
 
+static void print_written(size_t length) {
+    printf("W %lu", (unsigned long)length);
+    print_part(&areas[OUT], 0, length);
+}
+
 static void print_answer(uint32_t answer) {
     switch (kuta_kind(answer)) {
     case KUTA_QUIET: break;
@@ -66,6 +71,7 @@ static void print_answer(uint32_t answer) {
         putchar('\n');
         break;
     case KUTA_IDLE: fputs("I\n", stdout); break;
+    case KUTA_WRITTEN: print_written(kuta_written(answer)); break;
     default: printf("? %08lX\n", (unsigned long)answer); /* the header has no such answer */
     }
 }
@@ -115,6 +121,9 @@ static const struct field receiver_fields[] = {
     {2, 2, 65536},            /* limit */
     {16, 2, 65536},           /* register, low half */
     {18, 2, 65536},           /* register, high half */
+    {5, 1, 4},                /* mode */
+    {6, 2, 65536},            /* map, low half */
+    {8, 2, 65536},            /* map, high half */
 };
 
 static void put_number(uint8_t *place, unsigned long number) {
@@ -161,10 +170,11 @@ static void print_state(char letter, const uint8_t *state, const struct field *f
 
 /* ---- The commands */
 
-/* The operands of a command: its octet and number operands in their order, and the octets of the one that is `octets n`. */
+/* The operands of a command: its octet, number and long operands in their order, the octets of the one that is `octets n`, and those of
+ * the one that is a sending map. */
 struct operands {
-    unsigned numbers[14];
-    uint8_t octets[65535];
+    unsigned numbers[LENGTH(receiver_fields)];
+    uint8_t octets[65535], marks[KUTA_MARKS];
     size_t length;
 };
 
@@ -173,7 +183,13 @@ static void open_sender(const struct operands *given) {
 }
 
 static void open_receiver(const struct operands *given) {
-    print_opening(kuta_receiver_open(receiver, (uint8_t)given->numbers[0], (uint8_t)given->numbers[1], (uint16_t)given->numbers[2]));
+    print_opening(kuta_receiver_open(receiver, (uint8_t)given->numbers[0], (uint8_t)given->numbers[1], (uint16_t)given->numbers[2],
+                                     (uint8_t)given->numbers[3], given->numbers[4]));
+}
+
+static void open_pair(const struct operands *given) {
+    print_opening(kuta_pair_open(plain_sender, receiver, (uint8_t)given->numbers[0], (uint8_t)given->numbers[1],
+                                 (uint16_t)given->numbers[2], given->numbers[3], given->marks));
 }
 
 static void load_low(const struct operands *given) {
@@ -193,6 +209,10 @@ static void receive(const struct operands *given) {
     size_t i;
     for (i = 0; i < given->length; i++)
         print_answer(kuta_receive(receiver, given->octets[i], first, areas[FIRST].lent, second, areas[SECOND].lent));
+}
+
+static void send_plain(const struct operands *given) {
+    print_answer(kuta_plain_send(plain_sender, given->octets, given->length, out, areas[OUT].lent));
 }
 
 static void lend(const struct operands *given) {
@@ -221,13 +241,21 @@ static void hand_sender(const struct operands *given) { hand_in(sender, sender_f
 
 static void hand_receiver(const struct operands *given) { hand_in(receiver, receiver_fields, LENGTH(receiver_fields), given->numbers); }
 
+static void hand_plain_sender(const struct operands *given) {
+    memset(plain_sender, 0, KUTA_STATE);
+    plain_sender[0] = 1;
+    plain_sender[1] = (uint8_t)given->numbers[0];
+    put_number(plain_sender + 2, given->numbers[1]);
+    memcpy(plain_sender + 4, given->marks, KUTA_MARKS);
+}
+
 static void show_states(const struct operands *given) {
     (void)given;
     print_state('S', sender, sender_fields, LENGTH(sender_fields));
     print_state('T', receiver, receiver_fields, LENGTH(receiver_fields));
 }
 
-/* A command: its letter, its operands (1: octet, 2: number, n: octets n), and what it does. */
+/* A command: its letter, its operands (1: octet, 2: number, 4: long, n: octets n, m: a sending map), and what it does. */
 struct command {
     char letter;
     const char *operands;
@@ -236,7 +264,7 @@ struct command {
 
 static const struct command commands[] = {
     {'o', "112", open_sender},
-    {'O', "112", open_receiver},
+    {'O', "11214", open_receiver},
     {'l', "n", load_low},
     {'h', "n", load_high},
     {'n', "2", next_octets},
@@ -245,9 +273,12 @@ static const struct command commands[] = {
     {'A', "2", lend_out},
     {'f', "12n", fill},
     {'s', "222222222222", hand_sender},
-    {'t', "22222222222222", hand_receiver},
+    {'t', "22222222222222222", hand_receiver},
     {'d', "", show_states},
     {'x', "122", show},
+    {'p', "1124m", open_pair},
+    {'P', "12m", hand_plain_sender},
+    {'w', "n", send_plain},
 };
 
 /* ---- Input: each reader answers whether the input had all of what was to be read */
@@ -265,6 +296,13 @@ static int read_number(unsigned *number) {
     return 1;
 }
 
+static int read_long(unsigned *number) {
+    unsigned high_half;
+    if (!read_number(number) || !read_number(&high_half)) return 0;
+    *number += 65536 * high_half;
+    return 1;
+}
+
 static int read_octets(struct operands *given) {
     unsigned count;
     if (!read_number(&count)) return 0;
@@ -276,8 +314,13 @@ static int read_operands(const char *kinds, struct operands *given) {
     unsigned *number = given->numbers;
     int whole = 1;
     for (; whole && *kinds != '\0'; kinds++) {
-        if (*kinds == 'n') whole = read_octets(given);
-        else whole = *kinds == '1' ? read_octet(number++) : read_number(number++);
+        switch (*kinds) {
+        case '1': whole = read_octet(number++); break;
+        case '2': whole = read_number(number++); break;
+        case '4': whole = read_long(number++); break;
+        case 'n': whole = read_octets(given); break;
+        default: whole = fread(given->marks, 1, KUTA_MARKS, stdin) == KUTA_MARKS;
+        }
     }
     return whole;
 }
@@ -311,11 +354,13 @@ static int fault(const char *what) {
 
 int main(void) {
     static char input[1 << 16], output[1 << 16];
+    static const uint8_t no_marks[KUTA_MARKS] = {0};
     int status = 0;
     setvbuf(stdin, input, _IOFBF, sizeof input);
     setvbuf(stdout, output, _IOFBF, sizeof output);
     kuta_sender_open(sender, 0, KUTA_DEFAULT_WIDTH, KUTA_DEFAULT_LIMIT);
-    kuta_receiver_open(receiver, 0, KUTA_DEFAULT_WIDTH, KUTA_DEFAULT_LIMIT);
+    kuta_pair_open(plain_sender, receiver, 0, KUTA_DEFAULT_WIDTH, KUTA_DEFAULT_LIMIT, 0, no_marks);
+    kuta_receiver_open(receiver, 0, KUTA_DEFAULT_WIDTH, KUTA_DEFAULT_LIMIT, KUTA_PLAIN_OFF, 0);
     while (carry_out_next() && !ferror(stdout)) {
     }
     if (ferror(stdin)) status = fault("standard input: cannot be read");

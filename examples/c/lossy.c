@@ -191,10 +191,11 @@ static long number_of(const char *text, long most) {
     return *text < '0' || *text > '9' || *end != '\0' || number > most ? -1 : number;
 }
 
-/* Whether both ends take the width and the limit; each answers for itself. */
+/* Whether both ends take the width and the limit; each answers for itself. This line never has plain PPP, so plain reading stays off: with
+ * it on, one octet that the line damages to an FF behind a flag would cost all that follows. */
 static int open_both(uint8_t width, uint16_t limit) {
     return kuta_kind(kuta_sender_open(sender, SETTINGS, width, limit)) == KUTA_DONE &&
-           kuta_kind(kuta_receiver_open(receiver, SETTINGS, width, limit)) == KUTA_DONE;
+           kuta_kind(kuta_receiver_open(receiver, SETTINGS, width, limit, KUTA_PLAIN_OFF, 0)) == KUTA_DONE;
 }
 
 int main(int count, char **arguments) {

@@ -4,6 +4,8 @@
  *     H 3 0                            a fragment of 3 octets is held; 1 in place of the 0, where an older one was given up for it
  *     R 14                             a refused frame, by its number (kutarehopa.h)
  *
+ * From a frame on that begins FF, as after a restart of the peer, it reads plain PPP.
+ *
  *     cc -o receiver receiver.c -lkutarehopa && ./receiver < CAPTURE
  *
  * `./receiver 32` is for a line with a check sequence of 32 bits in place of 16, `./receiver 16 9000` for one whose ends agreed on packets
@@ -48,13 +50,19 @@ static int handle(const struct receiver *receiver, uint32_t answer) {
         return 1;
     case KUTA_REFUSED:
         if (value < KUTA_PLAIN_FRAME) break;
-        /* A frame is lost, and the receiver goes on with the next one. A link that negotiates starts over at KUTA_PLAIN_FRAME. */
+        /* A frame is lost, and the receiver goes on with the next one. */
         printf("R %u\n", value);
         return 1;
     }
     /* The call itself was refused: an area is too short, or the state was overwritten. That is this program's own fault: do not go on. */
     fprintf(stderr, "receiver: call refused, number %u\n", value);
     return 0;
+}
+
+/* Plain reading is on, with an empty map. A link that negotiates looks at kuta_mode after each report: from KUTA_MODE_PLAIN on the peer has
+ * restarted, and only an opening like this one, once both ends have agreed on COBS again, leads back. */
+static int open_receiver(struct receiver *receiver, uint8_t width, uint16_t limit) {
+    return kuta_kind(kuta_receiver_open(receiver->state, SETTINGS, width, limit, KUTA_PLAIN_ON, 0)) == KUTA_DONE;
 }
 
 /* Hands all of the octets to the receiver. A stretch ends with each report, so several frames of one read take several calls. */
@@ -96,7 +104,7 @@ int main(int count_of_words, char **words) {
     const uint8_t width = (uint8_t)(count_of_words > 1 ? number_of(words[1], UINT8_MAX) : KUTA_DEFAULT_WIDTH);
     const uint16_t limit = (uint16_t)(count_of_words > 2 ? number_of(words[2], UINT16_MAX) : KUTA_DEFAULT_LIMIT);
     ssize_t count;
-    if (count_of_words > 3 || kuta_kind(kuta_receiver_open(receiver.state, SETTINGS, width, limit)) != KUTA_DONE) {
+    if (count_of_words > 3 || !open_receiver(&receiver, width, limit)) {
         fprintf(stderr, "usage: %s [16|32 [LIMIT]] < CAPTURE, where LIMIT is from 2 to %d\n", words[0], KUTA_LARGEST_LIMIT);
         return 2;
     }

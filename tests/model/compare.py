@@ -9,11 +9,13 @@ Exits 0 when nothing differs, 1 at the first difference (input and both outputs 
 run of full size did not see every answer of every call, at 16 bits and at 32, with limits of 2 to 20,
 2,048 and 16,384, what a wrong width and a limit out of range are answered, restarts with something
 held, registers of what is held that are right, wrong and out of bounds, areas changed before a D1,
-and every area shown inside, to its end and beyond it; 2 when a program is missing. All three programs
-must end with status 0, also after `E`.
+plain PPP read, sent and out of bounds, pairs opened and refused, and every area shown inside, to its
+end and beyond it; 2 when a program is missing. All three programs must end with status 0, also after
+`E`.
 """
 import argparse
 import collections
+import itertools
 import os
 import random
 import re
@@ -23,7 +25,7 @@ import tempfile
 
 HERE = os.path.dirname(os.path.abspath(__file__))
 DEFAULT_OCTETS = 10_000_000
-DEFAULT_CALLS = 2_000_000
+DEFAULT_CALLS = 3_000_000
 TIME_LIMIT = 300
 
 FLAG = b"\x7e"
@@ -93,7 +95,7 @@ def build_model(folder):
 # Commands of docs/EXERCISE.md
 # ------------------------------------------------------------------------------------------------
 
-COMMANDS = b"oOlhnraAfstdx"
+COMMANDS = b"oOlhnraAfstdxpPw"
 WHOLE_AREAS = (20480, 20480, 20480, 20480, 40960)  # low, high, first, second, out
 WIDTHS = (16, 32)
 LIMITS = range(2, 16385)
@@ -154,8 +156,22 @@ def open_sender(settings, width=START.width, limit=START.limit):
     return b"o" + bytes((settings, width)) + number(limit)
 
 
-def open_receiver(settings, width=START.width, limit=START.limit):
-    return b"O" + bytes((settings, width)) + number(limit)
+def long(n):
+    return n.to_bytes(4, "little")
+
+
+def open_receiver(settings, width=START.width, limit=START.limit, plain=0, control=0):
+    """Plain reading is off unless said; `control` is the receiving map."""
+    return b"O" + bytes((settings, width)) + number(limit) + bytes((plain,)) + long(control)
+
+
+def marks(octets):
+    """A sending map's 32 octets, by the octets that it marks."""
+    return sum(1 << octet for octet in set(octets)).to_bytes(32, "little")
+
+
+def open_pair(settings, width=START.width, limit=START.limit, control=0, sending=marks(b"")):
+    return b"p" + bytes((settings, width)) + number(limit) + long(control) + sending
 
 
 def load_low(packet):
@@ -190,8 +206,20 @@ def hand_sender(numbers):
     return b"s" + b"".join(map(number, numbers))
 
 
+PLAIN_OFF = (0, 0, 0)  # a receiver's last three numbers, mode and map, where plain reading is off
+
+
 def hand_receiver(numbers):
-    return b"t" + b"".join(map(number, numbers))
+    """Its seventeen numbers; with the last three left out, plain reading is off."""
+    return b"t" + b"".join(map(number, (*numbers, *PLAIN_OFF)[:17]))
+
+
+def hand_plain_sender(width, limit, sending):
+    return b"P" + bytes((width,)) + number(limit) + sending
+
+
+def send_plain(packet):
+    return b"w" + octets(packet)
 
 
 def show(area, at, count):
@@ -226,8 +254,17 @@ def fcs(packet, width=16):
 
 
 def halves(register):
-    """A register as the two numbers of a receiver state, low half first."""
+    """A register or a map as the two numbers of a receiver state, low half first."""
     return register & 0xFFFF, register >> 16
+
+
+ESCAPE = b"\x7d"
+
+
+def stuffed(frame, marked=b""):
+    """A frame in plain PPP, without a flag: 7D, 7E and each octet that is marked are escaped."""
+    escaped = {*ESCAPE, *FLAG, *marked}
+    return b"".join(bytes((0x7D, octet ^ 0x20)) if octet in escaped else bytes((octet,)) for octet in frame)
 
 
 # ------------------------------------------------------------------------------------------------
@@ -493,6 +530,122 @@ DAMAGES = (flip_bits, flip_bits, drop_octets, insert_octets, insert_codes, lose_
            insert_flags, repeat_stretch, swap_frames, repeat_frame, lose_resumed, lose_resumed, restart_suspended,
            restart_suspended, insert_frame, insert_frame, insert_long, insert_noise, swap_zero_flag)
 
+RESTART_FIRST = re.compile(rb"(?:\A|(?<=\x7e))\xff+")  # what a frame begins with that begins FF
+
+
+def without_restarts(data):
+    """No frame begins FF any more: a capture program reads all of it as COBS."""
+    return RESTART_FIRST.sub(b"", data)
+
+
+# ------------------------------------------------------------------------------------------------
+# Plain PPP: maps, frames, damage
+# ------------------------------------------------------------------------------------------------
+
+CONTROLS = bytes(range(0x20))
+FORBIDDEN = (*range(0x20, 0x40), 0x5E)  # what no sending map may mark
+ALLOWED = bytes(octet for octet in range(256) if octet not in FORBIDDEN)
+FULL_MAP = 0xFFFFFFFF
+PLAIN_CODES = bytes.fromhex("00 01 03 11 13 1F 20 31 41 5D 5E 7D 7D 7D D1 DF FF")
+
+
+def some_map(rng):
+    """A receiving map."""
+    return rng.choice((0, 0, FULL_MAP, 0x000A0000, 1 << rng.randrange(32), rng.getrandbits(32)))
+
+
+def removed_by(control):
+    """The octets that a receiving map marks."""
+    return bytes(octet for octet in CONTROLS if control >> octet & 1)
+
+
+def some_marks(rng, control):
+    """Octets for a sending map that goes with this receiving one."""
+    return removed_by(control) + rng.choice((
+        b"", b"", CONTROLS, ALLOWED, b"\x7d\x7e", b"\xff", b"\x5d\x40", b"\x5f\x7f\x1f",
+        from_set(rng, ALLOWED, rng.randint(1, 200))))
+
+
+def worth(rng, agreed):
+    """Whether a frame as long as the limit allows is worth its octets: seldom where these are many."""
+    return agreed.limit <= 300 or rng.random() < 300 / agreed.limit
+
+
+def octets_of(rng, length):
+    """A packet, of one octet over and over where it is long."""
+    if length < 300 or rng.random() < 0.1:
+        return packet(rng, length)
+    return bytes((rng.choice(b"\x00\x11\x41\x7d\x7e\xff"),)) * length
+
+
+def plain_frame(rng, agreed, marked=b""):
+    """A frame with its flag: mostly a good one, of any length up to the limit and about it."""
+    longest = agreed.limit if worth(rng, agreed) else min(agreed.limit, rng.randint(2, 40))
+    data = octets_of(rng, rng.choice((2, 2, 3, 4, longest - 1, longest, longest, longest + 1, 0, 1, rng.randint(2, longest))))
+    check = fcs(data, agreed.width if rng.random() < 0.95 else 48 - agreed.width)
+    return stuffed(data + check, marked) + FLAG
+
+
+def plain_edge(rng, agreed):
+    """A frame whose octets are as many as a frame has at most, or nearly, so that 10, 14 or 18 comes at the flag; or a short
+    one where that is too long."""
+    count = max(0, agreed.longest + rng.choice((-1, 0, 0, 0, 1, 1, 2))) if worth(rng, agreed) else rng.randint(1, 9)
+    return b"A" * count + rng.choice((b"", b"", ESCAPE, ESCAPE + b"A", b"A" + ESCAPE, ESCAPE * 2)) + FLAG
+
+
+def escape_the_flag(_rng, line, _removed):
+    return line.replace(FLAG, ESCAPE + FLAG, 1)
+
+
+def escape_escapes(rng, line, _removed):
+    return insert(rng, line, ESCAPE * rng.choice((1, 2, 2, 3)))
+
+
+def put_in_removed(rng, line, removed):
+    """Octets that the map removes, or that are so where it has them, at some places."""
+    for _ in range(rng.choice((1, 3, 9))):
+        line = insert(rng, line, from_set(rng, removed or CONTROLS, rng.choice((1, 1, 2))))
+    return line
+
+
+PLAIN_DAMAGES = (escape_the_flag, escape_escapes, put_in_removed, put_in_removed, lambda rng, line, _: flip_bits(rng, line),
+                 lambda rng, line, _: drop_octets(rng, line), lambda rng, line, _: insert_octets(rng, line),
+                 lambda rng, line, _: lose_flag(rng, line), lambda rng, line, _: insert_flags(rng, line))
+
+
+def plain_piece(rng, agreed, control=0, marked=b""):
+    """A frame, good or damaged, an edge, or a few octets."""
+    kind = rng.random()
+    if kind < 0.4:
+        return plain_frame(rng, agreed, marked)
+    if kind < 0.65:
+        return rng.choice(PLAIN_DAMAGES)(rng, plain_frame(rng, agreed, marked), removed_by(control))
+    if kind < 0.72:
+        return plain_edge(rng, agreed)
+    if kind < 0.94:
+        return from_set(rng, PLAIN_CODES + FLAG * 4, rng.choice((1, 1, 2, 3, 6, 12)))
+    return rng.choice((FLAG, rng.randbytes(rng.choice((1, 9, 40)))))
+
+
+def plain_stretch(rng, least, agreed=START, control=0, marked=b""):
+    """Such pieces, at least so many octets."""
+    pieces, have = [], 0
+    while have < least:
+        pieces.append(plain_piece(rng, agreed, control, marked))
+        have += len(pieces[-1])
+    return b"".join(pieces)
+
+
+def restarted(rng, data, least):
+    """A line, an FF frame (straight behind a fragment, or a whole packet, or anything), and plain PPP; seldom COBS behind it."""
+    first = rng.choice((b"", b"\x05\x31" + FLAG, b"\x05" + FLAG, b"\xe0\x03\x47\x0f" + FLAG))
+    lcp = rng.choice((b"\xff", b"\xff\x03", b"\xff\x7d\x23\xc0\x21", restart_frame(rng))) + FLAG
+    marked = rng.choice((b"", CONTROLS, some_marks(rng, 0)))
+    if rng.random() < 0.3:
+        lcp = stuffed(b"\xff\x03\xc0\x21\x01\x01\0\x04\xd1\xb5", marked.replace(b"\xff", b"")) + FLAG
+    behind = data[:600] if rng.random() < 0.3 else b""
+    return without_restarts(data) + FLAG + first + lcp + plain_stretch(rng, least, marked=marked) + behind
+
 
 def pieces_of(rng, data):
     at = 0
@@ -513,7 +666,8 @@ def damaged(rng, data, rate):
 
 
 def captures(programs, rng, total):
-    """Named captures, about `total` octets in all."""
+    """Named captures, about `total` octets in all. Behind a frame that begins FF all is read as plain PPP, so most have none, or
+    one behind a long line of COBS."""
     yield "empty", b""
     yield "every octet", b"".join(bytes((o,)) + b"\x31\x32\x7e" for o in range(256))
     for first in range(256):
@@ -524,27 +678,52 @@ def captures(programs, rng, total):
         yield f"short cut {n}", pool[begin:end]
         yield f"short damaged {n}", damaged(rng, pool[begin:end], rng.choice((0.5, 2, 6)))
         yield f"short codes {n}", from_set(rng, CODES + FLAG * 3 + b"\x31\x05", rng.randint(0, 80))
+        yield f"short restarted {n}", restarted(rng, pool[begin:end][:600], rng.choice((1, 40, 200, 4000)))
+        codes = from_set(rng, PLAIN_CODES + FLAG * 4, rng.randint(0, 80))
+        yield f"short plain codes {n}", b"\xff" + FLAG * rng.randrange(2) + codes
     yield "sound", pool
     yield "sound, cut in a frame", pool[:-rng.randint(2, 300)]
     yield "sound, but of 32 bits", sound_line(programs, rng, total // 40, width=32)
     urgent = sound_line(programs, rng, total // 20, 1)
-    yield "restarts", b"".join(restart_suspended(rng, piece) for piece in pieces_of(rng, urgent))
-    yield "codes", from_set(rng, CODES + FLAG + b"\x31\x05\x06", total // 20)
-    yield "noise", rng.randbytes(total // 20)
+    for n in range(100):
+        begin, end = stretch(rng, urgent, 6000)
+        yield f"restart {n}", restart_suspended(rng, urgent[begin:end])
+    for n in range(10):
+        begin, end = stretch(rng, urgent, 40_000)
+        yield f"restarted {n}", restarted(rng, damaged(rng, urgent[begin:end], 0.5), total // 100)
+    codes = from_set(rng, CODES + FLAG + b"\x31\x05\x06", total // 20)
+    noise = rng.randbytes(total // 20)
+    yield "codes", without_restarts(codes)
+    yield "codes, read plain", b"\xff" + codes[:total // 60]
+    yield "noise", without_restarts(noise)
+    yield "noise, read plain", b"\xff" + noise
     yield "noise, few flags", rng.randbytes(total // 40).replace(FLAG, b"\x00")
     left = total
     while left > 0:
         urgent = rng.choice((0, 0.5, 1))
         line = sound_line(programs, rng, min(left, rng.choice((30_000, 300_000, 2_000_000))), urgent)
         line = damaged(rng, line, rng.choice((0.2, 0.7, 2)))
+        if rng.random() < 0.9:
+            line = without_restarts(line)
         line = line[:-rng.randint(1, 50)] if rng.random() < 0.3 else line
         left -= len(line)
         yield f"damaged, {left} to go", line
 
 
-# Lines of a capture that tell of a restart with something held: nothing is reported in between.
-RESTART_LINES = {"held, then refused-5": rb"(?m)^H .*\nR 5$",
-                 "held, then refused-5, then refused-8": rb"(?m)^H .*\nR 5\nR 8$"}
+def note_restart(programs, data, lines, seen):
+    """Where a frame begins FF: whether something was held then, as far as the lines before it tell, and what is reported from
+    there on, in plain reading."""
+    first = RESTART_FIRST.search(data)
+    if first is None:
+        seen.reports["no restart"] += 1
+        return
+    lines, before = lines.decode().splitlines(), programs.of_model("capture", data[:first.start()]).decode().splitlines()
+    if before and before[-1][0] == "H":
+        seen.reports["restart, something held"] += 1
+    if not any(line[0] == "H" for line in before):
+        seen.reports["restart, nothing held"] += 1
+    for line in lines[len(before):]:
+        seen.reports["plain " + (f"refused-{line[2:]}" if line[0] == "R" else "packets" if line[0] == "P" else "held")] += 1
 
 
 class Seen:
@@ -567,8 +746,7 @@ def compare_captures(programs, rng, total, seen):
             reports += int(count)
         if reports != lines.count(b"\n"):
             sys.exit(f"capture and count of the model do not agree on {name}")
-        for kind, pattern in RESTART_LINES.items():
-            seen.reports[kind] += len(re.findall(pattern, lines))
+        note_restart(programs, data, lines, seen)
         seen.octets += len(data)
         seen.captures += 1
 
@@ -582,7 +760,8 @@ EDGES = (0, 1, 2, 3, 4, 5, 6, 7, 8, 10, 11, 206, 207, 208, 255, 256, 257, 258, *
 WRONG_WIDTHS = (0, 1, 8, 15, 17, 24, 31, 33, 48, 64, 255)
 LIMITS_BELOW, LIMITS_ABOVE = (0, 1), (16385, 16386, 16640, 18432, 32768, 32770, 65534, 65535)
 SMALL = range(2, 21)  # limits whose edges cost few octets
-WIDTH, LIMIT, REGISTER = 10, 11, 12  # their places among the numbers of a state; a receiver's register is its last two
+WIDTH, LIMIT, REGISTER, MODE = 10, 11, 12, 14  # places among a state's numbers; of a receiver's the last two are its map
+OFF, COBS, PLAIN, ESCAPED = range(4)  # modes
 REMEMBERED_GOOD = (*range(5, 11), 21)  # refusals that may be remembered
 PLACES = (0, 1, 2040, 2051, 4095, 4096, 16380, 16389, 20470, 20478, 20479, 20480, 20481, 40950, 40958, 40959, 40960, 40961,
           65534, 65535)
@@ -698,26 +877,50 @@ def some_register(rng, agreed, held):
     return rng.choice((0, 1, start - 1, start, 0xFFFF, 0xFFFE, some, some)) if held else start
 
 
-def receiver_state(rng, agreed):
-    """The fourteen numbers of a receiver state in bounds; of something held the register is seldom right."""
+def held_number(rng, agreed):
+    """What a receiver has held: 0 for nothing, else the count and one."""
     most = agreed.most
-    held = min(most + 1, rng.choice((0, 0, 1, 2, 6, most - 1, most, most + 1, rng.randint(0, most + 1))))
-    turn = rng.randrange(2)
+    return min(most + 1, rng.choice((0, 0, 1, 2, 6, most - 1, most, most + 1, rng.randint(0, most + 1))))
+
+
+def ends_of(rng, agreed, held, mode):
+    """The last seven numbers of a receiver state: width, limit, register, mode and map."""
+    return *agreed, *halves(some_register(rng, agreed, held)), mode, *halves(some_map(rng))
+
+
+def receiver_state(rng, agreed):
+    """The seventeen numbers of a receiver state in bounds; of something held the register is seldom right."""
+    mode = rng.choice((OFF, OFF, COBS, PLAIN, ESCAPED))
+    return plain_state(rng, agreed, mode) if mode in (PLAIN, ESCAPED) else cobs_state(rng, agreed, mode)
+
+
+def plain_state(rng, agreed, mode):
+    """One that reads plain."""
+    held, turn, longest = held_number(rng, agreed), rng.randrange(2), agreed.longest
+    if mode == PLAIN and rng.random() < 0.2:
+        return [settings(rng), turn, 0, held, 0, 0, 0, 0, 0, 0, *ends_of(rng, agreed, held, mode)]
+    decoded = within(0, rng.choice((0, 0, 1, 2, 3, 4, 5, 6, 7, *range(longest - 2, longest + 2), rng.randint(0, longest))), longest
+                     + 1)
+    refusal = rng.choice((0, 0, 0, 0, 0, rng.choice([n for n in REMEMBERED_GOOD if n != 5])))
+    return [settings(rng), turn, decoded, held, 0, 0, 0, 1, rng.choice((0, 0, 1)), refusal, *ends_of(rng, agreed, held, mode)]
+
+
+def cobs_state(rng, agreed, mode):
+    most, held, turn = agreed.most, held_number(rng, agreed), rng.randrange(2)
     if rng.random() < 0.25:
-        return [settings(rng), turn, 0, held, 0, 0, 0, 0, 0, 0, *agreed, *halves(some_register(rng, agreed, held))]
+        return [settings(rng), turn, 0, held, 0, 0, 0, 0, 0, 0, *ends_of(rng, agreed, held, mode)]
     decoded = within(0, rng.choice((0, 0, 0, 1, 2, 4, 5, 6, 7, most - 8, *range(most - 3, most + 1), rng.randint(0, most))),
                      most)
     left = rng.choice((0, 0, 0, 0, 1, 1, 2, 206, 207, rng.randint(0, 207)))
     zeros, last, resumed = rng.randrange(3), rng.randrange(3), rng.randrange(2)
-    refusal = rng.choice((0, 0, 0, 0, rng.choice(REMEMBERED_GOOD)))
+    refusal = rng.choice((0, 0, 0, 0, rng.choice([n for n in REMEMBERED_GOOD if n != 5 or mode == OFF])))
     if refusal == 5:
         held = 0
     if refusal == 0 and last == 0:
         resumed = 1
     if refusal == 0 and last == 2 and left == 0 and decoded == 0:
         decoded = 1
-    return [settings(rng), turn, decoded, held, left, zeros, last, 1, resumed, refusal, *agreed,
-            *halves(some_register(rng, agreed, held))]
+    return [settings(rng), turn, decoded, held, left, zeros, last, 1, resumed, refusal, *ends_of(rng, agreed, held, mode)]
 
 
 def remembering_state(rng, agreed, refusal):
@@ -725,8 +928,7 @@ def remembering_state(rng, agreed, refusal):
     most = agreed.most
     held = rng.choice((0, 0, 1, 2, most + 1, rng.randint(1, most + 1)))
     return [settings(rng), rng.randrange(2), rng.choice((0, 0, most, rng.randint(0, most))), held, rng.choice((0, 0, 207)),
-            rng.randrange(3), rng.randrange(3), 1, rng.randrange(2), refusal, *agreed,
-            *halves(some_register(rng, agreed, held))]
+            rng.randrange(3), rng.randrange(3), 1, rng.randrange(2), refusal, *ends_of(rng, agreed, held, OFF)]
 
 
 def wrong_register(rng, agreed, held):
@@ -766,7 +968,7 @@ def receiver_at_edges(rng, agreed):
     held = rng.choice((0, 0, 0, *range(agreed.limit + 3, agreed.limit + 9)))
     left, zeros = rng.choice(((0, 0), (0, 0), (0, 0), (1, 0), (1, 1), (1, 2), (2, 1)))
     return [settings(rng), rng.randrange(2), decoded, held, left, zeros, rng.choice((1, 2, 2, 2)), 1, rng.randrange(2), 0,
-            *agreed, *halves(some_register(rng, agreed, held))]
+            *ends_of(rng, agreed, held, rng.choice((OFF, COBS)))]
 
 
 def disturbed(rng, state):
@@ -777,7 +979,7 @@ def disturbed(rng, state):
     for _ in range(rng.choice((1, 1, 1, 2, 4))):
         at = rng.randrange(len(state))
         state[at] = (width_number(rng) if at == WIDTH else limit_number(rng, state[at]) if at == LIMIT else
-                     edge(rng, state[at]))
+                     rng.randrange(8) if at == MODE else edge(rng, state[at]))
     return state
 
 
@@ -844,8 +1046,10 @@ def fragment(data):
     return b"".join((*blocks, bytes((len(rest) + 2,)), rest)).replace(FLAG, b"\0")
 
 
-def line_octets(rng, agreed):
+def line_octets(rng, agreed, mode=OFF):
     """Octets for the receiver, meaningful ones most."""
+    if mode in (PLAIN, ESCAPED) and rng.random() < 0.8:
+        return plain_piece(rng, agreed, rng.choice((0, FULL_MAP)), rng.choice((b"", CONTROLS)))
     kind = rng.random()
     if kind < 0.5:
         return from_set(rng, CODES + FLAG * 3 + b"\x31\x05", rng.choice((1, 1, 1, 2, 3, 6, 20)))
@@ -887,6 +1091,10 @@ def words(agreed):
     return "wrong width" if agreed.limit in LIMITS else f"wrong width, {limit_words(agreed.limit)}"
 
 
+# Why a sending map is refused 19, and a plain sender 3.
+LACKS, HAS_5E, HAS_20 = "a mark of the receiving map lacks", "5E marked", "one of 20 to 3F marked"
+NO_ESCAPE, NO_FLAG = "7D not marked", "7E not marked"
+
 # Words for calls about a restart, and the answers: a state handed in, the flag of an FF frame, that of a D1 frame.
 REMEMBERED, LET_GO, AFTER_THAT = "5 remembered with something held", "FF with something held", "D1 after that FF"
 # The same about the register of what is held: states handed in; flags of D1 frames after a change, or with a wrong register.
@@ -896,7 +1104,19 @@ CHANGED, AFTER_CHANGE = "held octet changed, then D1", "D1 after that one"
 BEHIND, WORK = "octets behind the held ones changed, then D1 alone", "work area changed, then D1 alone"
 NOT_OF_HELD, OF_NO_OCTETS = "register not that of the held octets, D1", "no octets held, register not at its start, D1"
 NO_PRE = "register not that of the held octets, no PRE, D1"
-TOLD = {REMEMBERED: "R 3", LET_GO: "R 5", AFTER_THAT: "R 8", NOT_START: "R 3", BEYOND: "R 3", NONE_21: "R 21",
+# The same about plain PPP: states handed in; flags of frames begun FF with plain reading on; flags of plain frames.
+NOT_FRESH = {4: "data left in plain reading", 5: "zeros due in plain reading", 6: "a last block in plain reading"}
+OUTSIDE, FIVE_ON = "an escape open out of a frame", "5 remembered, plain reading on"
+ONE_MORE, STILL_10 = "one octet too many handed in", "one octet too many handed in, an escape open"
+SWITCH_HELD, SWITCH = "FF with something held, plain reading on", "FF with nothing held, plain reading on"
+PLAIN_0, PLAIN_1 = "plain packet, first area", "plain packet, second area"
+PLAIN_10, PLAIN_13 = "plain frame too long", "plain frame too short"
+PLAIN_14, PLAIN_18 = "plain frame damaged", "escape open at the flag"
+LONGEST_18, REMOVED = "escape open behind the longest frame", "plain packet with removed octets put in"
+STUFFED = {SWITCH_HELD: "R 13", SWITCH: "R 13", PLAIN_0: "P area 0", PLAIN_1: "P area 1", PLAIN_10: "R 10", PLAIN_13: "R 13",
+           PLAIN_14: "R 14", PLAIN_18: "R 18", LONGEST_18: "R 18", REMOVED: "P area 0"}
+TOLD = {**dict.fromkeys(NOT_FRESH.values(), "R 3"), OUTSIDE: "R 3", FIVE_ON: "R 3", ONE_MORE: "R 10", STILL_10: "R 10", **STUFFED,
+        REMEMBERED: "R 3", LET_GO: "R 5", AFTER_THAT: "R 8", NOT_START: "R 3", BEYOND: "R 3", NONE_21: "R 21",
         SOME_21: "R 21", CHANGED: "R 21", AFTER_CHANGE: "R 8", BEHIND: "R 9", WORK: "R 9", NOT_OF_HELD: "R 21",
         OF_NO_OCTETS: "R 21", NO_PRE: "R 6"}
 
@@ -908,8 +1128,9 @@ class Script:
     def __init__(self):
         self.parts = []
         self.kinds = []
-        self.ends = {"sender": START, "receiver": START}
-        self.lengths = START.areas
+        self.ends = {"sender": START, "receiver": START, "plain sender": START}
+        self.lengths, self.out = START.areas, 2051
+        self.marked = b""  # by the plain sender, beside 7D and 7E; None where a state was handed in that is out of bounds
 
     def add(self, command, kind=None, calls=0, about=None):
         self.parts.append(command)
@@ -932,12 +1153,41 @@ class Script:
         agreed = self.ends[end]
         return not agreed.good or any(self.lengths[n] < agreed.areas[n] for n in places)
 
-    def open(self, end, settings, agreed):
-        """A refused opening leaves the end as it was."""
+    def open(self, end, settings, agreed, *reading):
+        """A refused opening leaves the end as it was. A receiver may be told to read plain, and its map."""
         if agreed.good:
             self.ends[end] = agreed
         command = open_sender if end == "sender" else open_receiver
-        self.add(command(settings, *agreed), f"open {end}", 1, words(agreed))
+        self.add(command(settings, *agreed, *reading), f"open {end}", 1, words(agreed))
+
+    def pair(self, settings, agreed, control, marked, why=None):
+        """`why` says why the sending map is refused."""
+        if agreed.good and not why:
+            self.ends["receiver"] = self.ends["plain sender"] = agreed
+            self.marked = marked
+        about = f"{words(agreed)}, {why}" if agreed.good and why else words(agreed)
+        self.add(open_pair(settings, *agreed, control, marks(marked)), "open pair", 1, about)
+
+    def hand_plain(self, agreed, marked, why=None):
+        """`why` says why the marks, which are all of it here, are out of bounds."""
+        self.ends["plain sender"], self.marked = agreed, None if why else marked
+        self.all_marks, self.why = marked, why
+        self.add(hand_plain_sender(*agreed, marks(marked)))
+
+    def send_plain(self, data):
+        """Under what the answer is counted: width and limit, and why the marks are out of bounds or whether out is too short
+        for any packet."""
+        agreed = self.ends["plain sender"]
+        about = words(agreed)
+        if not agreed.good:
+            about += ", short area" * (self.out < 3)
+        elif self.marked is None:
+            about += f", {self.why}"
+        self.add(send_plain(data), "plain send", 1, about)
+
+    def lend_out(self, length):
+        self.out = min(length, WHOLE_AREAS[4])
+        self.add(lend_out(length))
 
     def hand(self, end, numbers):
         self.ends[end] = Agreed(numbers[WIDTH] % 256, numbers[LIMIT])
@@ -1023,7 +1273,7 @@ def with_held(rng, script, state):
         return state
     held = packet(rng, state[3] - 1)
     script.add(fill(3 - state[1], 0, held))
-    return [*state[:REGISTER], *halves(register_over(held, state[WIDTH]))]
+    return [*state[:REGISTER], *halves(register_over(held, state[WIDTH])), *state[MODE:]]
 
 
 def add_receiver_state(rng, script, agreed):
@@ -1034,7 +1284,7 @@ def add_receiver_state(rng, script, agreed):
     if rng.random() < 0.15:
         script.add(fill(2 + rng.randrange(2), rng.choice((0, 0, agreed.limit - 2)), area_octets(rng, agreed)))
     for _ in range(rng.choice((1, 1, 2, 4))):
-        script.receive(line_octets(rng, agreed))
+        script.receive(line_octets(rng, agreed, state[MODE] % 4))
         show_some(rng, script, 2 + rng.randrange(2), state[2])
 
 
@@ -1055,14 +1305,19 @@ def add_register_state(rng, script, agreed):
         state, octet = remembering_state(rng, agreed, 21), FLAG
         about = SOME_21 if state[3] else NONE_21
     else:
-        state, octet = receiver_state(rng, agreed), rng.choice((FLAG, FLAG, b"\xff", b"\xd1", b"1"))
+        state, octet = receiver_state(rng, agreed), rng.choice((FLAG, FLAG, b"\xff", b"\xd1", b"1", ESCAPE))
         if agreed.width == 32 or rng.random() < 0.4:
             state[3] = 0
         about = BEYOND if state[3] else NOT_START
-        state[REGISTER:] = halves(wrong_register(rng, agreed, state[3]))
+        state[REGISTER:MODE] = halves(wrong_register(rng, agreed, state[3]))
     script.hand("receiver", state)
     script.receive(octet, None if script.refused("receiver", (2, 3)) else f"{words(agreed)}, {about}")
     script.receive(FLAG + line_octets(rng, agreed))
+
+
+def reads_cobs(rng):
+    """Mode and map of a receiver that reads COBS: with plain reading on that makes no difference up to an FF frame."""
+    return rng.choice((PLAIN_OFF, (OFF, 7, 0x8000), (COBS, *halves(some_map(rng)))))
 
 
 def frames_between(rng, agreed):
@@ -1084,7 +1339,7 @@ def add_changed_area(rng, script, agreed):
     lend_for(script, agreed)
     most, turn = agreed.most, rng.randrange(2)
     held = zero_free(rng, min(most, rng.choice((1, 2, 9, 40, 206, 207, most - 1, most, rng.randint(1, most)))))
-    script.hand("receiver", [rng.choice((2, 3, 3, 0xFE)), turn, *[0] * 8, *agreed, *halves(agreed.start)])
+    script.hand("receiver", [rng.choice((2, 3, 3, 0xFE)), turn, *[0] * 8, *agreed, *halves(agreed.start), *reads_cobs(rng)])
     script.receive(fragment(held) + FLAG)
     script.receive(frames_between(rng, agreed))
     what, count = rng.choice((CHANGED, CHANGED, BEHIND, WORK)), len(held)
@@ -1116,7 +1371,7 @@ def add_wrong_register(rng, script, agreed):
                         agreed.start, some_register(rng, agreed, True)))
     wrong ^= wrong == right
     script.add(fill(3 - turn, 0, held))
-    script.hand("receiver", [bits, turn, 0, len(held) + 1, *[0] * 6, *agreed, *halves(wrong)])
+    script.hand("receiver", [bits, turn, 0, len(held) + 1, *[0] * 6, *agreed, *halves(wrong), *reads_cobs(rng)])
     script.receive(frames_between(rng, agreed))
     script.receive(b"\xd1" + rng.choice((b"", b"\x03\x37\x38", b"\xff", b"\xd1", b"\x01")))
     script.receive(FLAG, f"{words(agreed)}, " + (NO_PRE if not bits & 2 else NOT_OF_HELD if held else OF_NO_OCTETS))
@@ -1135,7 +1390,9 @@ def add_decoded_frame(rng, script, agreed):
     script.add(fill(2 + turn, 0, frame))
     held = rng.choice((0, 0, 1, 6, longest + 4, longest + 6))
     state = [settings(rng), turn, len(frame), held, 0, 0, 2, 1, rng.randrange(2), 0, *agreed,
-             *halves(some_register(rng, agreed, held))]
+             *halves(some_register(rng, agreed, held)), *reads_cobs(rng)]
+    if rng.random() < 0.3:  # the same in plain reading, with or without the octet that is COBS's zero
+        state[2], state[6], state[MODE] = len(frame) - rng.choice((1, 1, 1, 0)), 0, rng.choice((PLAIN, PLAIN, PLAIN, ESCAPED))
     state = with_held(rng, script, state)
     if rng.random() < 0.3:
         state = disturbed(rng, state)
@@ -1170,12 +1427,17 @@ def add_held_frame(rng, script, agreed):
     show_some(rng, script, 2 + rng.randrange(2), cut)
 
 
+def some_reading(rng):
+    """Plain reading off or on, and a map: the last two operands of an opening."""
+    return rng.choice((0, 0, 1, 1, 2, 255)), some_map(rng)
+
+
 def add_whole_frame(rng, script, agreed):
     """A frame about as long as the limit allows, of few octets where it is long; and the receiver of another limit."""
     length = max(0, agreed.limit + rng.choice((-1, 0, 0, 0, 1, 2)))
     data = packet(rng, length) if length < 300 or rng.random() < 0.02 else bytes(length)
     line = encoded(data + fcs(data, agreed.width)) + FLAG
-    script.open("receiver", rng.choice((3, 3, 3, 1, 2)), other_agreed(rng, agreed))
+    script.open("receiver", rng.choice((3, 3, 3, 1, 2)), other_agreed(rng, agreed), *some_reading(rng))
     if rng.random() < 0.3:
         line = b"\x05\x31" + FLAG + line
     if rng.random() < 0.3:
@@ -1188,14 +1450,202 @@ def add_whole_frame(rng, script, agreed):
 def add_line(rng, script, agreed, pools):
     """A stretch of a line, sound or damaged, received from fresh or going on."""
     if rng.random() < 0.6:
-        script.open("receiver", settings(rng), opening_agreed(rng, agreed))
+        script.open("receiver", settings(rng), opening_agreed(rng, agreed), *some_reading(rng))
     pool = pools[agreed.width, next((limit for limit in POOL_LIMITS if agreed.limit <= limit), POOL_LIMITS[-1])]
     begin, end = stretch(rng, pool, rng.choice((60, 60, 300, 300, 3000)))
     data = pool[begin:end]
     if rng.random() < 0.6:
         data = damaged(rng, data, 1)[:60000]
+    if rng.random() < 0.5:
+        data = without_restarts(data)
     script.receive(data)
     show_some(rng, script, 2 + rng.randrange(2), 5)
+
+
+def add_plain_bounds(rng, script, agreed):
+    """A receiver that is out of bounds by one thing alone that plain reading brings, or that is refused 10 for one octet."""
+    agreed = other_agreed(rng, agreed)
+    lend_for(script, agreed)
+    kind, octet = rng.randrange(6), rng.choice((FLAG, FLAG, ESCAPE, b"\xff", b"\x11", b"1"))
+    mode = rng.choice((PLAIN, ESCAPED))
+    state = plain_state(rng, agreed, mode)
+    if kind < 3:
+        at = rng.choice((*NOT_FRESH,))
+        state[7], state[at], what = 1, rng.choice((1, 2)), NOT_FRESH[at]
+    elif kind == 3:
+        held = state[3]
+        state, what = [settings(rng), rng.randrange(2), 0, held, *[0] * 6, *ends_of(rng, agreed, held, ESCAPED)], OUTSIDE
+    elif kind == 4:
+        state, what = remembering_state(rng, agreed, 5), FIVE_ON
+        state[MODE] = rng.choice((COBS, PLAIN, ESCAPED))
+        state[3:7], state[REGISTER:MODE] = [0] * 4, halves(agreed.start)
+    else:
+        state[2], state[7], state[9], octet, what = agreed.most, 1, 0, FLAG, ONE_MORE if mode == PLAIN else STILL_10
+    script.hand("receiver", state)
+    script.receive(octet, f"{words(agreed)}, {what}")
+    script.receive(FLAG + line_octets(rng, agreed, mode))
+
+
+def add_switch(rng, script, agreed):
+    """A frame that begins FF comes to a receiver with plain reading on that holds something, or nothing."""
+    lend_for(script, agreed)
+    held, turn = rng.choice((b"", b"1", b"12", zero_free(rng, min(agreed.most, 60)), None, None, None)), rng.randrange(2)
+    register = agreed.start if held is None else register_over(held, agreed.width)
+    if held:
+        script.add(fill(3 - turn, 0, held))
+    script.hand("receiver", [settings(rng), turn, 0, 0 if held is None else len(held) + 1, *[0] * 6, *agreed, *halves(register),
+                             COBS,
+                             *halves(some_map(rng))])
+    script.receive(frames_between(rng, agreed))
+    script.receive(b"\xff")
+    script.receive(rng.choice((b"", b"", b"\x41", b"\x7d\x23")))
+    script.receive(FLAG, f"{words(agreed)}, {SWITCH if held is None else SWITCH_HELD}")
+    script.receive(rng.choice((b"\xd1\x01" + FLAG, plain_piece(rng, agreed), encoded(b"AB" + fcs(b"AB", agreed.width)) + FLAG)))
+    show_some(rng, script, 2 + rng.randrange(2), 2)
+
+
+def plain_case(rng, agreed, control, marked):
+    """A frame without its flag, and what it is called: of a receiver that works in its first area."""
+    longest, shortest = agreed.longest, agreed.shortest
+    long = worth(rng, agreed)
+    data = octets_of(rng, rng.choice((2, 2, min(agreed.limit, 9), agreed.limit if long else 3)) if agreed.limit > 2 else 2)
+    whole = stuffed(data + fcs(data, agreed.width), marked)
+    kind = rng.choice((0, 1, 2, 3, 4, 5, 6) if long else (1, 2, 3, 5, 6))
+    if kind == 0:
+        return b"A" * (longest + rng.choice((1, 1, 2, 9))) + rng.choice((b"", ESCAPE)), PLAIN_10
+    if kind == 1:
+        return rng.randbytes(rng.randint(1, shortest - 1)).translate(HARMLESS), PLAIN_13
+    if kind == 2:
+        frame = bytearray(data + fcs(data, agreed.width))
+        frame[rng.randrange(len(frame))] ^= 1 << rng.randrange(8)
+        return stuffed(frame, marked), PLAIN_14
+    if kind == 3:
+        return rng.choice((b"", b"A", whole)) + ESCAPE, PLAIN_18
+    if kind == 4:
+        return b"A" * longest + ESCAPE, LONGEST_18
+    if kind == 5 and control:
+        return put_in_removed(rng, whole, removed_by(control)), REMOVED
+    return whole, PLAIN_0
+
+
+HARMLESS = bytes(octet if octet >= 0x20 and octet not in (0x7D, 0x7E) else 0x41 for octet in range(256))
+
+
+def add_stuffed(rng, script, agreed):
+    """A pair, or a receiver opened by itself, an FF frame or a state that reads plain, noise and a flag; then plain frames
+    of which it is known what they are answered."""
+    lend_for(script, agreed)
+    control, turn = some_map(rng), 0
+    marked = some_marks(rng, control)
+    if rng.random() < 0.4:
+        turn = rng.randrange(2)
+        script.hand("receiver", [settings(rng), turn, *[0] * 8, *agreed, *halves(agreed.start), PLAIN, *halves(control)])
+    elif rng.random() < 0.5:
+        script.pair(settings(rng), agreed, control, marked)
+        script.receive(b"\xff" + FLAG)
+    else:
+        script.open("receiver", settings(rng), agreed, 1, control)
+        script.receive(b"\xff" + FLAG)
+    script.receive(plain_stretch(rng, rng.choice((0, 1, 40)), agreed, control, marked) + FLAG)
+    for _ in range(rng.choice((1, 2, 4))):
+        line, what = plain_case(rng, agreed, control, marked)
+        if turn and what in (PLAIN_0, REMOVED):
+            what = PLAIN_1
+        script.receive(line)
+        script.receive(FLAG, f"{words(agreed)}, {what}")
+    show_some(rng, script, 2 + turn, rng.choice((3, agreed.longest)))
+
+
+def add_nearly_full(rng, script, agreed):
+    """A plain frame handed in that has as many octets as it may, or a few less; the next ones bring 10 or 18 at its flag."""
+    lend_for(script, agreed)
+    room, held = rng.randrange(min(4, agreed.longest)), held_number(rng, agreed)
+    script.hand("receiver", [settings(rng), rng.randrange(2), agreed.longest - room, held, 0, 0, 0, 1, rng.randrange(2), 0,
+                             *ends_of(rng, agreed, held, PLAIN)])
+    octets, what = rng.choice(((b"A", PLAIN_10), (ESCAPE + b"A", PLAIN_10), (b"A" + ESCAPE, PLAIN_10), (ESCAPE, LONGEST_18)))
+    script.receive(b"A" * room + octets)
+    show_some(rng, script, 2 + rng.randrange(2), agreed.longest)
+    script.receive(FLAG, f"{words(agreed)}, {what}")
+
+
+def add_plain_line(rng, script, agreed):
+    """A stretch of plain PPP, received from fresh, from a pair or going on."""
+    control, kind = some_map(rng), rng.random()
+    marked = some_marks(rng, control)
+    if kind < 0.4:
+        script.pair(settings(rng), other_agreed(rng, agreed), control, marked)
+    elif kind < 0.7:
+        script.open("receiver", settings(rng), other_agreed(rng, agreed), 1, control)
+    data = plain_stretch(rng, rng.choice((1, 30, 300)), agreed, control, marked)
+    script.receive(rng.choice((b"\xff", b"\xff" + FLAG, b"")) + data[:60000])
+    show_some(rng, script, 2 + rng.randrange(2), 5)
+
+
+def refused_marks(rng, control):
+    """A sending map that is refused for this receiving one, for one reason alone; and why."""
+    marked, removed = some_marks(rng, control), removed_by(control)
+    kind = rng.randrange(3)
+    if kind == 0 and removed:
+        return marked.replace(bytes((rng.choice(removed),)), b""), LACKS
+    if kind == 1:
+        return marked + b"\x5e", HAS_5E
+    return marked + bytes((rng.choice((0x20, 0x3F, rng.randint(0x20, 0x3F))),)), HAS_20
+
+
+def add_pairs(rng, script, agreed):
+    """Openings of pairs, good and refused; each followed by what plain sender and receiver are then."""
+    for _ in range(rng.choice((1, 3))):
+        control, kind = some_map(rng), rng.random()
+        if kind < 0.4:
+            script.pair(settings(rng), agreed, control, some_marks(rng, control))
+        elif kind < 0.7:
+            marked, why = refused_marks(rng, control)
+            script.pair(settings(rng), agreed, control, marked, why)
+        else:
+            script.pair(settings(rng), wrong_agreed(rng, agreed), control, *rng.choice(
+                ((some_marks(rng, control),), refused_marks(rng, control))))
+        script.states()
+        add_plain_sends(rng, script)
+
+
+def out_of_bounds_marks(rng):
+    """All marks of a plain sender's state that is out of bounds for one reason alone, and why."""
+    some = some_marks(rng, 0).replace(ESCAPE, b"").replace(FLAG, b"")
+    return rng.choice(((some + FLAG, NO_ESCAPE), (some + ESCAPE, NO_FLAG), (some + b"\x5e\x7d\x7e", HAS_5E),
+                       (some + b"\x7d\x7e" + bytes((rng.randint(0x20, 0x3F),)), HAS_20)))
+
+
+def line_length(data, agreed, marked):
+    """Octets that a plain sender writes whose marks are all of these."""
+    return sum(2 if octet in marked else 1 for octet in data + fcs(data, 32 if agreed.width == 32 else 16)) + 1
+
+
+def add_plain_sends(rng, script):
+    """Packets with exactly as much of out as they want, one octet less, or any length."""
+    for _ in range(rng.choice((1, 2, 4))):
+        agreed = script.ends["plain sender"]
+        limit = agreed.limit if agreed.limit in LIMITS else 20
+        length = rng.choice((0, 1, 2, 2, 3, limit - 1, limit, limit, limit + 1, min(300, rng.randint(2, limit))))
+        data = octets_of(rng, length)
+        marked = script.all_marks if script.marked is None else {*script.marked, *ESCAPE, *FLAG}
+        script.lend_out(rng.choice((*[line_length(data, agreed, marked)] * 3, line_length(data, agreed, marked) - 1, 40960, 2051, 0,
+                                    1)))
+        script.send_plain(data)
+        if rng.random() < 0.3:
+            show_some(rng, script, 4, line_length(data, agreed, marked))
+
+
+def add_plain_sender(rng, script, agreed):
+    """Plain senders' states handed in: in bounds, with a wrong width or limit, or with marks out of bounds."""
+    for _ in range(rng.choice((1, 2, 4))):
+        agreed, kind = other_agreed(rng, agreed), rng.random()
+        if kind < 0.3:
+            script.hand_plain(agreed, some_marks(rng, 0) + b"\x7d\x7e")
+        elif kind < 0.8:
+            script.hand_plain(agreed, *out_of_bounds_marks(rng))
+        else:
+            script.hand_plain(wrong_agreed(rng, agreed), *rng.choice(((b"\x7d\x7e",), out_of_bounds_marks(rng))))
+        add_plain_sends(rng, script)
 
 
 def add_session(rng, script, agreed):
@@ -1206,7 +1656,7 @@ def add_session(rng, script, agreed):
         add_sends(rng, script, agreed)
 
 
-def add_fills(rng, script):
+def add_fills(rng, script, _agreed):
     """Octets put into areas near their ends and beyond, then shown, with the edges of another area."""
     for _ in range(rng.choice((1, 2, 5))):
         area, at = area_number(rng), rng.choice((*PLACES, rng.randrange(65536)))
@@ -1245,6 +1695,12 @@ def add_wrong(rng, script, agreed):
 
 
 POOL_LIMITS = (4, 20, 2048)  # lines of packets up to these are sent, to take stretches from
+# The kinds of steps, and how often each is taken.
+STEPS = [*zip(*(
+    (add_sender_state, 24), (add_receiver_state, 24), (add_restarted_state, 3), (add_register_state, 4), (add_changed_area, 3),
+    (add_wrong_register, 3), (add_decoded_frame, 6), (add_held_frame, 6), (add_whole_frame, 4), (add_line, 3), (add_fills, 3),
+    (add_wrong, 4), (add_session, 7), (add_plain_bounds, 8), (add_switch, 5), (add_stuffed, 8), (add_nearly_full, 4),
+    (add_plain_line, 3), (add_pairs, 7), (add_plain_sender, 6)))]
 
 
 def any_script(rng, pools):
@@ -1257,34 +1713,9 @@ def any_script(rng, pools):
         elif rng.random() < 0.15:
             script.lend(area_lengths(rng, agreed))
         if rng.random() < 0.05:
-            script.add(lend_out(out_length(rng)))
-        kind = rng.random()
-        if kind < 0.29:
-            add_sender_state(rng, script, agreed)
-        elif kind < 0.54:
-            add_receiver_state(rng, script, agreed)
-        elif kind < 0.57:
-            add_restarted_state(rng, script, agreed)
-        elif kind < 0.61:
-            add_register_state(rng, script, agreed)
-        elif kind < 0.64:
-            add_changed_area(rng, script, agreed)
-        elif kind < 0.66:
-            add_wrong_register(rng, script, agreed)
-        elif kind < 0.72:
-            add_decoded_frame(rng, script, agreed)
-        elif kind < 0.78:
-            add_held_frame(rng, script, agreed)
-        elif kind < 0.82:
-            add_whole_frame(rng, script, agreed)
-        elif kind < 0.85:
-            add_line(rng, script, agreed, pools)
-        elif kind < 0.88:
-            add_fills(rng, script)
-        elif kind < 0.92:
-            add_wrong(rng, script, agreed)
-        else:
-            add_session(rng, script, agreed)
+            script.lend_out(out_length(rng))
+        add = rng.choices(*STEPS)[0]
+        add(rng, script, agreed, **({"pools": pools} if add is add_line else {}))
     if rng.random() < 0.1:
         script.show_all()
     return script
@@ -1313,6 +1744,8 @@ def longest_operands(rng):
         lend((65535,) * 4), lend_out(65535), *(fill(area, 0, rng.randbytes(65535)) for area in range(6)),
         *(fill(area, 65535, rng.randbytes(65535)) for area in range(6)), load_low(rng.randbytes(65535)), SHOW_STATES,
         load_low(rng.randbytes(2048)), next_octets(65535), open_receiver(3), receive(rng.randbytes(65535)), SHOW_STATES,
+        open_pair(3), receive(b"\xff" + rng.randbytes(65534)), SHOW_STATES, send_plain(rng.randbytes(65535)),
+        send_plain(bytes(2048)),
         *(show(area, at, 65535) for area in range(6) for at in (0, 65535))))
 
 
@@ -1324,13 +1757,68 @@ def held_or_nothing():
         for held, register in ((None, 0xFFFF), (b"", 0xFFFF), (b"", 0x1234), (b"\x31\x32\x33", register_over(b"123")),
                                (b"\x31\x32\x33", 0xFFFF)):
             count, ends = 0 if held is None else len(held) + 1, (16, 2048, *halves(register))
-            for mark in (0, 1):
-                parts += [hand_receiver((3, mark, 5, count, 0, 0, 0, 1, mark, octet, *ends)), receive(b"\xff"), SHOW_STATES,
-                          receive(FLAG), SHOW_STATES]
+            for mode in range(4):
+                for mark in (0, 1):
+                    parts += [hand_receiver((3, mark, 5, count, 0, 0, 0, 1, mark, octet, *ends, mode, 0, 2)), receive(b"\xff"),
+                              SHOW_STATES, receive(FLAG), SHOW_STATES]
             for bits in range(4):
-                parts += [fill(3 - bits % 2, 0, held or b""), hand_receiver((bits, bits % 2, 0, count, *[0] * 6, *ends)),
+                reading = (bits % 2, 0, 2) if octet != 0xFF else (bits // 2, 0, 2)
+                parts += [fill(3 - bits % 2, 0, held or b""), hand_receiver((bits, bits % 2, 0, count, *[0] * 6, *ends, *reading)),
                           receive(bytes((octet,))), SHOW_STATES, receive(b"\xff"), SHOW_STATES, receive(FLAG), SHOW_STATES,
                           receive(b"\xd1\x01" + FLAG), SHOW_STATES]
+    return b"".join(parts)
+
+
+def every_plain_octet(width):
+    """Each octet as it comes in plain reading, with nothing before it, octets and an escape, and maps empty, full and of single
+    marks; then another octet and the flag."""
+    parts = [lend(lent(width))]
+    for octet in range(256):
+        own = 1 << octet if octet < 0x20 else 0x20000
+        for control in (0, FULL_MAP, own, FULL_MAP ^ own):
+            for decoded, frame, mode in ((0, 0, PLAIN), (5, 1, PLAIN), (5, 1, ESCAPED), (0, 1, ESCAPED)):
+                ends = (width, 2048, *halves(2 ** width - 1), mode, *halves(control))
+                parts += [fill(2, 0, b"\xee" * 8), hand_receiver((3, 0, decoded, 0, 0, 0, 0, frame, 0, 0, *ends)),
+                          receive(bytes((octet,))),
+                          SHOW_STATES, show(2, 0, 8), receive(b"\x11"), SHOW_STATES, receive(FLAG), SHOW_STATES]
+    return b"".join(parts)
+
+
+def every_mark():
+    """Pairs and plain senders with each of the 256 marked alone, each not marked alone, and each bit of a receiving map."""
+    parts = []
+    for octet in range(256):
+        data = bytes((octet, 0x41, 0x7D, octet))
+        for marked in ((octet,), ALLOWED.replace(bytes((octet,)), b""), {octet, *ALLOWED}, (octet, 0x7D), (octet, 0x7D, 0x7E)):
+            for control in (0, 1 << octet % 32, FULL_MAP):
+                parts += [open_pair(octet, control=control, sending=marks(marked)), SHOW_STATES, send_plain(data)]
+            parts += [hand_plain_sender(32, 4, marks(marked)), send_plain(data), send_plain(data[:1]), lend_out(9),
+                      send_plain(data),
+                      lend_out(2051), show(4, 0, 20)]
+    return b"".join(parts)
+
+
+def every_reading():
+    """A receiver opened with each mode octet, and handed in with each number of a mode; FF and plain PPP behind it."""
+    line = b"\xff\x03" + FLAG + stuffed(b"\x11\x7d" + fcs(b"\x11\x7d"), b"\x11") + b"\x11" + FLAG
+    parts = []
+    for octet in range(256):
+        parts += [open_receiver(3, 16, 2048, octet, 0x20000), SHOW_STATES, receive(line), SHOW_STATES]
+        for frame in (0, 1):
+            parts += [hand_receiver((3, 0, 0, 0, 0, 0, 0, frame, frame, 0, 16, 2048, 0xFFFF, 0, octet, 0, 2)), SHOW_STATES,
+                      receive(line),
+                      SHOW_STATES]
+    return b"".join(parts)
+
+
+def every_plain_bound():
+    """Each mode, in a frame and out of one, with data left, zeros due, last block, refusals, something held and resumed or not."""
+    parts = []
+    for mode, frame, refusal, block, held, resumed, decoded in itertools.product(
+            range(4), (0, 1), (0, 5, 6, 10, 18, 21), ((0, 0, 0), (1, 0, 0), (0, 1, 0), (0, 0, 1), (0, 0, 2), (207, 2, 2)), (0, 1, 3),
+            (0, 1), (0, 7, 2050, 2051, 2052)):
+        parts += [hand_receiver((3, 0, decoded, held, *block, frame, resumed, refusal, 16, 2048, 0xFFFF, 0, mode, 0, 2)),
+                  receive(b"A"), SHOW_STATES, receive(FLAG), SHOW_STATES]
     return b"".join(parts)
 
 
@@ -1410,6 +1898,11 @@ def limit_and_width(limit, width):
     lengths = [(0,) * 4, about.areas, tuple(n + 1 for n in about.areas), (20480,) * 4]
     lengths += [tuple(n - (at == place) for place, n in enumerate(about.areas)) for at in range(4)]
     parts, fresh = [open_sender(3, *agreed), open_receiver(3, *agreed), SHOW_STATES], halves(agreed.start)
+    for count in (0, 1, 2, about.limit, about.limit + 1):
+        for sending in (b"\x7d\x7e", b"\x41\x7d\x7e", b"\x41\x5e"):
+            written = line_length(b"A" * count, about, sending)
+            parts += [hand_plain_sender(*agreed, marks(sending)),
+                      *(lend_out(n) + send_plain(b"A" * count) for n in (written - 1, written))]
     for areas in lengths:
         parts += [lend(areas), hand_sender((3, *[0] * 9, *agreed)), load_low(bytes(about.limit + 1)), load_high(b"1"),
                   load_low(bytes(about.limit)), load_high(b"AB"), SHOW_STATES, next_octets(9)]
@@ -1418,8 +1911,16 @@ def limit_and_width(limit, width):
         data = bytes(about.limit)
         for line in (encoded(data + fcs(data, about.width)), encoded(bytes(about.longest)), encoded(bytes(about.most))):
             parts += [hand_receiver((3, *[0] * 9, *agreed, *fresh)), receive(line + FLAG), SHOW_STATES]
+        for line in (data + fcs(data, about.width), b"A" * about.longest, b"A" * about.most):
+            parts += [hand_receiver((3, *[0] * 9, *agreed, *fresh, PLAIN, 0, 0)), receive(line), SHOW_STATES, receive(FLAG),
+                      SHOW_STATES]
         for count in (about.most, about.most + 1):
             register = halves(register_over(bytes(count), about.width))
+            for mode in (PLAIN, ESCAPED):
+                for octet in (b"A", ESCAPE, FLAG):
+                    parts += [hand_receiver((3, 1, count - 1, 0, 0, 0, 0, 1, 0, 0, *agreed, *fresh, mode, 0, 0)), receive(octet),
+                              SHOW_STATES,
+                              receive(FLAG), SHOW_STATES]
             parts += [fill(3, 0, bytes(count)), hand_receiver((3, 0, 0, count + 1, *[0] * 6, *agreed, *register)),
                       receive(b"\xd1\x01" + FLAG), SHOW_STATES,
                       hand_receiver((3, 0, 0, count + 1, *[0] * 6, *agreed, register[0] ^ 1, register[1])),
@@ -1445,13 +1946,20 @@ def fixed_scripts(rng):
         yield f"command {octet} alone", SHOW_STATES + bytes((octet,))
     for command in (open_sender(3, 32), open_receiver(3, 32), load_low(b"AB"), load_high(b"AB"), next_octets(3),
                     receive(b"\x01\x7e\x01\x7e"), lend((1, 2, 3, 4)), lend_out(5), fill(4, 1, b"AB"),
-                    hand_sender(range(12)), hand_receiver(range(14)), show(0, 1, 2)):
+                    hand_sender(range(12)), hand_receiver(range(17)), show(0, 1, 2), open_receiver(3, 32, 2048, 1, 0x12345678),
+                    open_pair(3, 32, 20, 0x20000, marks(b"\x11\x41")), hand_plain_sender(32, 20, marks(b"\x7d\x7e")),
+                    send_plain(b"AB")):
         for cut in range(1, len(command) + 1):
             yield f"command {command[:1].decode()}, {cut} octets", SHOW_STATES + command[:cut]
     yield "every area number", every_area_number()
     yield "something held or nothing", held_or_nothing()
     yield "every bit of what is held", every_bit_of_held()
     yield "every edge of the register", every_edge_of_register()
+    for width in WIDTHS:
+        yield f"every plain octet, {width} bits", every_plain_octet(width)
+    yield "every mark", every_mark()
+    yield "every reading", every_reading()
+    yield "every bound of plain reading", every_plain_bound()
     yield "every width", every_width()
     yield "every limit", every_limit()
     for limit in (0, 1, 2, 3, 2048, 16383, 16384, 16385, 65535):
@@ -1488,11 +1996,11 @@ def note_answers(script, out, seen):
     at = 0
     for kind, calls, about in script.kinds:
         seen.calls += calls
-        if kind in ("load", "next octet"):
+        if kind in ("load", "next octet", "plain send"):
             for line in lines[at:at + calls]:
                 seen.answers[kind, about, answer_of(line)] += 1
             at += calls
-        elif kind in ("open sender", "open receiver"):
+        elif kind in ("open sender", "open receiver", "open pair"):
             opened = about in GOOD
             seen.answers[kind, about, "opened" if opened else answer_of(lines[at])] += 1
             at += not opened
@@ -1531,29 +2039,38 @@ def compare_scripts(programs, rng, total, seen):
 # What must be seen
 # ------------------------------------------------------------------------------------------------
 
-REPORTS = (["packets", "held", "held-replaced", *RESTART_LINES]
-           + [f"refused-{n}" for n in range(5, 15) if n not in (6, 11)])  # 6 and 11 need other settings than 03
-UNSEEN = "refused-21"  # counted, but never reported where nobody else writes to the areas
+REPORTS = ["packets", "held", "held-replaced", *(f"refused-{n}" for n in (7, 8, 9, 10, 12, 13, 14, 18)), "plain packets",
+           *(f"plain refused-{n}" for n in (10, 13, 14, 18)), "restart, something held", "restart, nothing held", "no restart"]
+# Counted, but never reported: 5, since plain reading is on; 6 and 11, since both settings are; 21, since nobody else writes to
+# the areas.
+UNSEEN = ("refused-5", "refused-6", "refused-11", "refused-21")
 CALLS = {"load": ["D", "R 1", "R 2", "R 3", "R 4"],
          "next octet": ["O", "I", "R 2", "R 3"],
          "receiver": ["Quiet", "P area 0", "P area 1", "H replaced 0", "H replaced 1",
-                      *(f"R {n}" for n in (2, 3, *range(5, 15), 21))]}
+                      *(f"R {n}" for n in (2, 3, *range(5, 15), 18, 21))],
+         "plain send": ["W", "R 1", "R 2"]}
 WRONG_LIMITS = ("limit below 2", "limit above 16,384")
 # Good widths and limits. Every answer must be seen at small limits and at 2,048, and these at 16,384.
 GOOD = {f"{width} bits, {limit}": limit for width in WIDTHS for limit in (
     "small limit", "limit 2,048", "limit 16,384", "other limit")}
-AT_16384 = ("D", "O", "I", "Quiet", "P area 0", "P area 1", "H replaced 0", "H replaced 1",
-            *(f"R {n}" for n in (1, 2, 3, 4, 10, 14)))
+AT_16384 = ("D", "O", "I", "W", "Quiet", "P area 0", "P area 1", "H replaced 0", "H replaced 1",
+            *(f"R {n}" for n in (1, 2, 3, 4, 10, 14, 18)))
 KNOWN = {(call, about, a) for call, answers in CALLS.items() for about in GOOD for a in answers}
 ANSWERS = [(call, about, a) for call, answers in CALLS.items() for about, limit in GOOD.items() for a in answers
            if limit != "other limit" and (limit != "limit 16,384" or a in AT_16384)]
 # With areas for 16 bits alone a state of 32 is 2. A wrong width or limit is 3, whatever is lent; to open with, a wrong
 # limit is 23, whatever the width.
-ANSWERS += [(call, "32 bits, areas for 16", "R 2") for call in CALLS]
+ANSWERS += [(call, "32 bits, areas for 16", "R 2") for call in CALLS if call != "plain send"]
 WRONG = ["wrong width", *(f"{width}, {limit}" for width in ("16 bits", "32 bits", "wrong width") for limit in WRONG_LIMITS)]
 ANSWERS += [(call, about + short, "R 3") for call in CALLS for about in WRONG for short in ("", ", short area")]
 ANSWERS += [(call, about, "opened" if about in GOOD else "R 23" if about.endswith(WRONG_LIMITS) else "R 3")
-            for call in ("open sender", "open receiver") for about in (*GOOD, *WRONG)]
+            for call in ("open sender", "open receiver", "open pair") for about in (*GOOD, *WRONG)]
+# A pair's sending map may be refused for three reasons, and a plain sender's state for four, behind 2.
+OF_MAPS = [(("open pair", f"{about}, {why}", "R 19"), limit) for about, limit in GOOD.items() for why in (LACKS, HAS_5E, HAS_20)]
+OF_MAPS += [(("plain send", f"{about}, {why}", answer), limit) for about, limit in GOOD.items()
+            for why in (NO_ESCAPE, NO_FLAG, HAS_5E, HAS_20) for answer in ("R 2", "R 3")]
+ANSWERS += [answer for answer, limit in OF_MAPS if limit != "other limit"]
+KNOWN |= {answer for answer, _ in OF_MAPS}
 # Restarts and registers, at every width and limit of which answers must be seen; with 32 bits no register is too large.
 ANSWERS += [("receiver", f"{about}, {what}", answer) for what, answer in TOLD.items() for about, limit in GOOD.items()
             if limit != "other limit" and not (what == BEYOND and about.startswith("32"))]
@@ -1577,8 +2094,9 @@ def print_seen(seen):
     missing = [kind for kind in REPORTS if not seen.reports[kind]]
     missing += [" ".join(filter(None, key)) for key in ANSWERS if not seen.answers[key]]
     strange = [" ".join(filter(None, key)) for key in seen.answers if key not in KNOWN]
-    strange += [f"{UNSEEN} in captures {seen.reports[UNSEEN]} times"] * (seen.reports[UNSEEN] > 0)
-    missing += [f"the line {UNSEEN}"] * (UNSEEN not in seen.reports)
+    strange += [f"{kind} in captures {seen.reports[kind]} times" for kind in UNSEEN if seen.reports[kind] > 0]
+    strange += ["plain held in captures"] * (seen.reports["plain held"] > 0)
+    missing += [f"the line {kind}" for kind in UNSEEN if kind not in seen.reports]
     print("not seen: " + (", ".join(missing) or "none"))
     if strange:
         print("not known: " + ", ".join(strange))

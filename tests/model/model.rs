@@ -1,14 +1,14 @@
 //! An independent model of the COBS link of document 01 (settings ZXE and PRE, two lanes, two
-//! receive areas), with the 32-bit check, the agreed limit of a packet, the restart and the held
-//! octets' register of document 02, slips 1, 11, 4 and 8. Written from these documents, the
-//! readings of 02 that were agreed on, and the exercise driver's format alone. "01" and "02" in the
-//! comments are the documents, and "step n" is 01's numbered step. A comment `Reading:` marks a
-//! place where the words were weighed.
+//! receive areas), with the 32-bit check, the agreed limit of a packet, the restart, the held
+//! octets' register and plain PPP of document 02, slips 1, 11, 4, 8 and 5. Written from these
+//! documents, the readings of 02 that were agreed on, and the exercise driver's format alone. "01"
+//! and "02" in the comments are the documents, and "step n" is 01's numbered step. A comment
+//! `Reading:` marks a place where the words were weighed.
 //!
 //!     rustc -C opt-level=3 --edition 2021 -o model model.rs
 //!
-//!     model capture    raw octets -> one line a report (16 bits, packets to 2,048)
-//!     model count      raw octets -> the fourteen counts of the tally (the same)
+//!     model capture    raw octets -> one line a report (16 bits, packets to 2,048, plain PPP read)
+//!     model count      raw octets -> the fifteen counts of the tally (the same)
 //!     model exercise   commands of docs/EXERCISE.md -> one line an answer
 
 use std::io::{self, Read, Write};
@@ -23,8 +23,11 @@ const FLAG: u8 = 0x7E;
 const STAND_IN: u8 = 0x00;
 /// First octet of a resumed frame.
 const RESUME: u8 = 0xD1;
-/// First octet of a frame that a restarted peer sends; the frame itself is refused.
+/// First octet of a frame that a restarted peer sends: refused, or the first one in plain PPP.
 const RESTART: u8 = 0xFF;
+/// In plain PPP the octet behind it is changed by ESCAPE_BIT.
+const ESCAPE: u8 = 0x7D;
+const ESCAPE_BIT: u8 = 0x20;
 /// The code sent only to be broken off by the flag that follows it.
 const BREAK_CODE: u8 = 0x02;
 /// Code of a full block: 207 data octets and no zero.
@@ -61,6 +64,8 @@ mod refusal {
     pub const LAST_FULL: u8 = 12;
     pub const TOO_LITTLE: u8 = 13;
     pub const FCS: u8 = 14;
+    pub const ESCAPE_OPEN: u8 = 18;
+    pub const SENDING_MAP: u8 = 19;
     pub const HELD_CHANGED: u8 = 21;
     pub const LIMIT: u8 = 23;
     /// The first and last of 01 that refuse a frame.
@@ -139,6 +144,12 @@ impl Agreed {
 
     fn fcs_length(self) -> usize {
         usize::from(self.width / 8)
+    }
+
+    /// F: a packet and its FCS.
+    fn frame_of(self, packet: &[u8]) -> Vec<u8> {
+        let fcs = self.check().complement_over(packet);
+        [packet, &fcs[..self.fcs_length()]].concat()
     }
 
     fn packet_longest(self) -> usize {
@@ -238,6 +249,11 @@ impl Check {
     /// where the FCS has fewer than four octets.
     fn complement_over(&self, packet: &[u8]) -> [u8; 4] {
         (self.register_over(packet) ^ self.start).to_le_bytes()
+    }
+
+    /// Whether octets are a packet and its FCS.
+    fn good_over(&self, frame: &[u8]) -> bool {
+        self.register_over(frame) == self.good
     }
 }
 
@@ -486,13 +502,10 @@ impl Sender {
         if !self.agreed.packet_lengths().contains(&packet.len()) {
             return Loaded::Refused(refusal::PACKET_LENGTH);
         }
-        let fcs_length = self.agreed.fcs_length();
-        let fcs = self.agreed.check().complement_over(packet);
-        let length = packet.len() + fcs_length;
-        area[..packet.len()].copy_from_slice(packet);
-        area[packet.len()..length].copy_from_slice(&fcs[..fcs_length]);
+        let frame = self.agreed.frame_of(packet);
+        area[..frame.len()].copy_from_slice(&frame);
         *self.lane_mut(name) = Lane {
-            length,
+            length: frame.len(),
             position: 0,
         };
         Loaded::Done
@@ -628,8 +641,158 @@ impl Sender {
 }
 
 // ---------------------------------------------------------------------------------------------
+// Plain PPP: maps and sender
+// ---------------------------------------------------------------------------------------------
+
+/// The receiving map: bit i marks octet i, below 20, which is removed where it arrives.
+#[derive(Clone, Copy)]
+struct ControlMap(u32);
+
+impl ControlMap {
+    const EMPTY: ControlMap = ControlMap(0);
+
+    fn removes(self, octet: u8) -> bool {
+        octet < 0x20 && self.0 >> octet & 1 == 1
+    }
+}
+
+/// The sending map: octet i / 8 has the mark of octet i, which is sent escaped, at its bit i mod 8.
+#[derive(Clone, Copy)]
+struct Marks([u8; 32]);
+
+impl Marks {
+    const EMPTY: Marks = Marks([0; 32]);
+
+    fn has(self, octet: u8) -> bool {
+        self.0[usize::from(octet / 8)] >> (octet % 8) & 1 == 1
+    }
+
+    fn with(mut self, octet: u8) -> Marks {
+        self.0[usize::from(octet / 8)] |= 1 << (octet % 8);
+        self
+    }
+
+    /// What every map gets when the pair is opened.
+    fn with_escape_and_flag(self) -> Marks {
+        self.with(ESCAPE).with(FLAG)
+    }
+
+    /// Octets that would be a flag or a control octet once escaped.
+    fn has_forbidden(self) -> bool {
+        self.has(0x5E) || (0x20..=0x3F).any(|octet| self.has(octet))
+    }
+
+    /// 19: no sending map for this receiving one.
+    fn unfit_for(self, receiving: ControlMap) -> bool {
+        self.has_forbidden() || (0..0x20).any(|octet| receiving.removes(octet) && !self.has(octet))
+    }
+}
+
+#[derive(Clone, Copy)]
+struct PlainSender {
+    agreed: Agreed,
+    marks: Marks,
+}
+
+impl PlainSender {
+    fn fresh(agreed: Agreed, marks: Marks) -> PlainSender {
+        PlainSender {
+            agreed,
+            marks: marks.with_escape_and_flag(),
+        }
+    }
+
+    /// Width and limit are good.
+    // Reading: what 19 forbids a map at opening is out of bounds in a state handed in; the
+    // receiving map is not known here.
+    fn in_bounds(&self) -> bool {
+        self.marks.has(ESCAPE) && self.marks.has(FLAG) && !self.marks.has_forbidden()
+    }
+
+    /// A frame and its flag as they go on the line.
+    fn line_of(&self, packet: &[u8]) -> Vec<u8> {
+        let mut line = Vec::new();
+        for octet in self.agreed.frame_of(packet) {
+            if self.marks.has(octet) {
+                line.extend([ESCAPE, octet ^ ESCAPE_BIT]);
+            } else {
+                line.push(octet);
+            }
+        }
+        line.push(FLAG);
+        line
+    }
+
+    /// Writes one frame and its flag to a lent area; the length written, or the refusal.
+    // Reading: 2 is told by what this packet takes with these marks, also where 3 or 1 would
+    // follow.
+    fn send(&self, packet: &[u8], area: &mut [u8]) -> Result<usize, u8> {
+        if !self.agreed.good() {
+            return Err(refusal::STATE);
+        }
+        let line = self.line_of(packet);
+        if line.len() > area.len() {
+            return Err(refusal::AREA_SHORT);
+        }
+        if !self.in_bounds() {
+            return Err(refusal::STATE);
+        }
+        if !self.agreed.packet_lengths().contains(&packet.len()) {
+            return Err(refusal::PACKET_LENGTH);
+        }
+        area[..line.len()].copy_from_slice(&line);
+        Ok(line.len())
+    }
+}
+
+/// A plain sender and a receiver with plain reading on, or the number of the refusal.
+fn open_pair(
+    settings: Settings,
+    agreed: Agreed,
+    map: ControlMap,
+    marks: Marks,
+) -> Result<(PlainSender, Receiver), u8> {
+    let agreed = agreed.at_opening()?;
+    if marks.unfit_for(map) {
+        return Err(refusal::SENDING_MAP);
+    }
+    Ok((
+        PlainSender::fresh(agreed, marks),
+        Receiver::fresh(settings, agreed, Mode::Cobs, map),
+    ))
+}
+
+// ---------------------------------------------------------------------------------------------
 // Receiver
 // ---------------------------------------------------------------------------------------------
+
+/// How octets are read. With plain reading off they are COBS for good; with it on a frame that
+/// begins FF is plain PPP, as are all after it.
+#[derive(Clone, Copy, PartialEq, Eq)]
+enum Mode {
+    /// COBS, plain reading off.
+    Off,
+    /// COBS, plain reading on.
+    Cobs,
+    Plain,
+    /// Plain, behind an escape.
+    Escaped,
+}
+
+impl Mode {
+    fn is_plain(self) -> bool {
+        matches!(self, Mode::Plain | Mode::Escaped)
+    }
+
+    /// What a flag leaves of it.
+    fn after_flag(self) -> Mode {
+        if self == Mode::Escaped {
+            Mode::Plain
+        } else {
+            self
+        }
+    }
+}
 
 #[derive(Clone, Copy, PartialEq, Eq)]
 enum LastBlock {
@@ -654,6 +817,8 @@ type Areas<'a> = [&'a mut [u8]; 2];
 struct Receiver {
     settings: Settings,
     agreed: Agreed,
+    mode: Mode,
+    map: ControlMap,
     /// Which area works: 0 the first, 1 the second. The other one is the held area.
     work: usize,
     decoded: usize,
@@ -671,15 +836,27 @@ struct Receiver {
 }
 
 impl Receiver {
-    /// An opened receiver, or the number of the refusal.
-    fn open(settings: Settings, agreed: Agreed) -> Result<Receiver, u8> {
-        Ok(Receiver::fresh(settings, agreed.at_opening()?))
+    /// An opened receiver, or the number of the refusal. With plain reading off there is no map.
+    fn open(
+        settings: Settings,
+        agreed: Agreed,
+        plain: bool,
+        map: ControlMap,
+    ) -> Result<Receiver, u8> {
+        let agreed = agreed.at_opening()?;
+        Ok(if plain {
+            Receiver::fresh(settings, agreed, Mode::Cobs, map)
+        } else {
+            Receiver::fresh(settings, agreed, Mode::Off, ControlMap::EMPTY)
+        })
     }
 
-    fn fresh(settings: Settings, agreed: Agreed) -> Receiver {
+    fn fresh(settings: Settings, agreed: Agreed, mode: Mode, map: ControlMap) -> Receiver {
         Receiver {
             settings,
             agreed,
+            mode,
+            map,
             work: 0,
             decoded: 0,
             held: None,
@@ -721,12 +898,13 @@ impl Receiver {
         }
     }
 
-    /// Refusals that may be remembered: 5 only with nothing held, since its FF let that go.
+    /// Refusals that may be remembered: 5 only with plain reading off, and with nothing held, since
+    /// its FF let that go.
     // Reading: this is asked of 5 alone, and whatever the settings are; 21 lets go too, but a state
-    // handed in may have it with something held, as 6 to 10.
+    // handed in may have it with something held, as 6 to 10. All but 5 may be there in any mode.
     fn remembered_in_bounds(&self, number: u8) -> bool {
         match number {
-            refusal::BEGINS_FF => self.held.is_none(),
+            refusal::BEGINS_FF => self.mode == Mode::Off && self.held.is_none(),
             refusal::NOT_AGREED..=refusal::TOO_MUCH | refusal::HELD_CHANGED => true,
             _ => false,
         }
@@ -734,20 +912,27 @@ impl Receiver {
 
     /// What must be as in a fresh receiver while no frame is begun.
     // Reading: the settings are as given at opening, so they are not tested either; nor are width
-    // and limit, once they are good.
+    // and limit, once they are good, nor the map. An escape is open only in a frame.
     fn fresh_outside(&self) -> bool {
         self.decoded == 0
-            && self.left == 0
-            && self.zeros == 0
-            && self.last == LastBlock::None
+            && self.no_block()
             && !self.resumed
             && self.refusal.is_none()
+            && self.mode != Mode::Escaped
     }
 
-    /// The two clauses on the last block.
+    /// Data left, zeros due and last block are as fresh.
+    fn no_block(&self) -> bool {
+        self.left == 0 && self.zeros == 0 && self.last == LastBlock::None
+    }
+
+    /// The two clauses on the last block; in plain reading there is none.
     // Reading: "in a frame without refusal" governs both clauses, so a frame with a remembered
-    // refusal is tested by neither.
+    // refusal is tested by neither. "Stay as fresh" is asked of plain reading with a refusal too.
     fn frame_in_bounds(&self) -> bool {
+        if self.mode.is_plain() {
+            return self.no_block();
+        }
         if self.refusal.is_some() {
             return true;
         }
@@ -779,6 +964,10 @@ impl Receiver {
         if octet == FLAG {
             return self.take_flag(areas);
         }
+        if self.mode.is_plain() {
+            self.take_plain(areas, octet);
+            return Answer::Quiet;
+        }
         let octet = from_line(octet);
         if self.refusal.is_some() {
             // Step 4: the rest of the frame is skipped.
@@ -796,17 +985,50 @@ impl Receiver {
     fn take_first(&mut self, areas: &mut Areas, octet: u8) {
         self.in_frame = true;
         match octet {
-            RESTART => self.take_restart(),
+            RESTART => self.take_restart(areas),
             RESUME => self.take_resume(areas),
             code => self.take_code(areas, code),
         }
     }
 
-    /// Step 1: a first FF. What was held before the peer's restart goes at once.
-    // Reading: the areas do not turn, and PRE is not looked at.
-    fn take_restart(&mut self) {
+    /// Step 1: a first FF. What was held before the peer's restart goes at once. With plain reading
+    /// on the FF is the first octet of a plain frame.
+    // Reading: the areas do not turn, and PRE is not looked at; nor is the map, which has no FF.
+    fn take_restart(&mut self, areas: &mut Areas) {
         self.let_go();
-        self.refuse(refusal::BEGINS_FF);
+        if self.mode == Mode::Off {
+            self.refuse(refusal::BEGINS_FF);
+        } else {
+            self.mode = Mode::Plain;
+            self.put(areas, RESTART);
+        }
+    }
+
+    /// An octet other than the flag in plain reading.
+    // Reading: what is removed neither begins a frame nor ends an escape, and only the octet as it
+    // came is looked up in the map. Behind an escape 7D is as any other: 5D.
+    fn take_plain(&mut self, areas: &mut Areas, octet: u8) {
+        if self.refusal.is_some() || self.map.removes(octet) {
+            return;
+        }
+        self.in_frame = true;
+        if self.mode == Mode::Escaped {
+            self.mode = Mode::Plain;
+            self.put(areas, octet ^ ESCAPE_BIT);
+        } else if octet == ESCAPE {
+            self.mode = Mode::Escaped;
+        } else {
+            self.put(areas, octet);
+        }
+    }
+
+    /// An octet of a plain frame; there is no phantom, so that the longest frame is the most.
+    fn put(&mut self, areas: &mut Areas, octet: u8) {
+        if self.decoded + 1 > self.agreed.frame_longest() {
+            return self.refuse(refusal::TOO_MUCH);
+        }
+        areas[self.work][self.decoded] = octet;
+        self.decoded += 1;
     }
 
     /// Step 1: a first D1.
@@ -900,22 +1122,40 @@ impl Receiver {
         self.register = self.agreed.check().start;
     }
 
-    /// Step 5: the flag gives the report, and all but settings, width, limit, turn, held count and
-    /// its register goes fresh.
+    /// Step 5: the flag gives the report, and all but settings, width, limit, map, mode, turn, held
+    /// count and its register goes fresh; an open escape ends.
     fn take_flag(&mut self, areas: &Areas) -> Answer {
-        let report = if self.in_frame {
-            self.report(areas)
-        } else {
+        let report = if !self.in_frame {
             Answer::Quiet
+        } else if self.mode.is_plain() {
+            self.report_plain(areas)
+        } else {
+            self.report(areas)
         };
         self.note_held(areas, report);
         *self = Receiver {
             work: self.work,
             held: self.held,
             register: self.register,
-            ..Receiver::fresh(self.settings, self.agreed)
+            ..Receiver::fresh(self.settings, self.agreed, self.mode.after_flag(), self.map)
         };
         report
+    }
+
+    /// What the flag of a plain frame reports.
+    // Reading: 10 is not only remembered. A state handed in may have one octet more than the
+    // longest frame, and its flag is refused so.
+    fn report_plain(&self, areas: &Areas) -> Answer {
+        if let Some(number) = self.refusal {
+            return Answer::Refused(number);
+        }
+        if self.decoded > self.agreed.frame_longest() {
+            return Answer::Refused(refusal::TOO_MUCH);
+        }
+        if self.mode == Mode::Escaped {
+            return Answer::Refused(refusal::ESCAPE_OPEN);
+        }
+        self.report_frame(areas, self.decoded)
     }
 
     /// Step 5's choice, in its order.
@@ -953,12 +1193,15 @@ impl Receiver {
 
     /// Step 5: the phantom goes, and what is left is a frame.
     fn report_whole(&self, areas: &Areas) -> Answer {
-        let length = self.decoded.saturating_sub(1);
+        self.report_frame(areas, self.decoded.saturating_sub(1))
+    }
+
+    /// A frame of so many octets in the work area.
+    fn report_frame(&self, areas: &Areas, length: usize) -> Answer {
         if length < self.agreed.frame_shortest() {
             return Answer::Refused(refusal::TOO_LITTLE);
         }
-        let check = self.agreed.check();
-        if check.register_over(&areas[self.work][..length]) != check.good {
+        if !self.agreed.check().good_over(&areas[self.work][..length]) {
             return Answer::Refused(refusal::FCS);
         }
         Answer::Packet {
@@ -990,7 +1233,7 @@ fn shown(area: &[u8], length: usize) -> &[u8] {
     area.get(..length).unwrap_or(&[])
 }
 
-const COUNTS: usize = 14;
+const COUNTS: usize = 15;
 const COUNT_NAMES: [&str; COUNTS] = [
     "packets",
     "held",
@@ -1005,6 +1248,7 @@ const COUNT_NAMES: [&str; COUNTS] = [
     "refused-12",
     "refused-13",
     "refused-14",
+    "refused-18",
     "refused-21",
 ];
 
@@ -1025,7 +1269,8 @@ impl Tally {
             Answer::Refused(number @ refusal::FRAME_FIRST..=refusal::FRAME_LAST) => {
                 3 + usize::from(number - refusal::FRAME_FIRST)
             }
-            Answer::Refused(refusal::HELD_CHANGED) => 13,
+            Answer::Refused(refusal::ESCAPE_OPEN) => 13,
+            Answer::Refused(refusal::HELD_CHANGED) => 14,
             Answer::Refused(_) | Answer::Quiet => return,
         };
         self.counts[place] = self.counts[place].saturating_add(1);
@@ -1138,13 +1383,13 @@ impl<W: Write> Lines<W> {
 // Capture and count
 // ---------------------------------------------------------------------------------------------
 
-/// Runs a fresh receiver, both settings on, 16 bits and packets to 2,048, over all of the input;
-/// `note` gets each report.
+/// Runs a fresh receiver, both settings on, 16 bits and packets to 2,048, plain reading on with an
+/// empty map, over all of the input; `note` gets each report.
 fn receive_all<N>(input: &mut impl Read, mut note: N) -> io::Result<()>
 where
     N: FnMut(Answer, &Areas) -> io::Result<()>,
 {
-    let mut receiver = Receiver::fresh(Settings::BOTH, Agreed::BASE);
+    let mut receiver = Receiver::fresh(Settings::BOTH, Agreed::BASE, Mode::Cobs, ControlMap::EMPTY);
     let mut first = vec![0; receiver.agreed.receiver_area()];
     let mut second = first.clone();
     let mut areas: Areas = [&mut first, &mut second];
@@ -1211,7 +1456,8 @@ const LENT: [usize; AREAS] = [2_050, 2_050, 2_051, 2_051, 2_051];
 /// A command with all of its operands.
 enum Command<'a> {
     OpenSender(Settings, Agreed),
-    OpenReceiver(Settings, Agreed),
+    OpenReceiver(Settings, Agreed, bool, ControlMap),
+    OpenPair(Settings, Agreed, ControlMap, Marks),
     Load(LaneName, &'a [u8]),
     Next(usize),
     Receive(&'a [u8]),
@@ -1225,6 +1471,8 @@ enum Command<'a> {
     },
     HandSender(Sender),
     HandReceiver(Receiver),
+    HandPlainSender(PlainSender),
+    SendPlain(&'a [u8]),
     ShowStates,
     ShowArea {
         area: usize,
@@ -1243,7 +1491,18 @@ impl<'a> Script<'a> {
     fn command(&mut self) -> Option<Command<'a>> {
         Some(match self.octet()? {
             b'o' => Command::OpenSender(Settings(self.octet()?), self.agreed()?),
-            b'O' => Command::OpenReceiver(Settings(self.octet()?), self.agreed()?),
+            b'O' => Command::OpenReceiver(
+                Settings(self.octet()?),
+                self.agreed()?,
+                self.octet()? != 0,
+                self.map()?,
+            ),
+            b'p' => Command::OpenPair(
+                Settings(self.octet()?),
+                self.agreed()?,
+                self.map()?,
+                self.marks()?,
+            ),
             b'l' => Command::Load(LaneName::Low, self.octets()?),
             b'h' => Command::Load(LaneName::High, self.octets()?),
             b'n' => Command::Next(self.number()?),
@@ -1257,6 +1516,11 @@ impl<'a> Script<'a> {
             },
             b's' => Command::HandSender(sender_of(self.numbers()?)),
             b't' => Command::HandReceiver(receiver_of(self.numbers()?)),
+            b'P' => Command::HandPlainSender(PlainSender {
+                agreed: self.agreed()?,
+                marks: self.marks()?,
+            }),
+            b'w' => Command::SendPlain(self.octets()?),
             b'd' => Command::ShowStates,
             b'x' => Command::ShowArea {
                 area: self.octet()?.into(),
@@ -1296,9 +1560,18 @@ impl<'a> Script<'a> {
         self.take(count)
     }
 
-    /// The operands of an opening behind the settings octet.
+    /// Width and limit as an opening has them, and a plain sender.
     fn agreed(&mut self) -> Option<Agreed> {
         Some(agreed_of(self.octet()?.into(), self.number()?))
+    }
+
+    fn map(&mut self) -> Option<ControlMap> {
+        let octets = self.take(4)?.try_into().ok()?;
+        Some(ControlMap(u32::from_le_bytes(octets)))
+    }
+
+    fn marks(&mut self) -> Option<Marks> {
+        Some(Marks(self.take(32)?.try_into().ok()?))
     }
 }
 
@@ -1354,17 +1627,19 @@ fn sender_numbers(sender: &Sender) -> [usize; 12] {
     ]
 }
 
-/// The fourteen numbers of `t`.
-fn receiver_of(numbers: [usize; 14]) -> Receiver {
-    let [settings, work, decoded, held, left, zeros, last, ..] = numbers;
-    let [.., in_frame, resumed, remembered, width, limit, low_half, high_half] = numbers;
+/// The seventeen numbers of `t`.
+fn receiver_of(numbers: [usize; 17]) -> Receiver {
+    let [settings, work, decoded, held, left, zeros, last, in_frame, ..] = numbers;
+    let [.., resumed, remembered, width, limit, low, high, mode, map_low, map_high] = numbers;
     Receiver {
         settings: Settings((settings % 256) as u8),
         agreed: agreed_of(width, limit),
+        mode: MODES[mode % MODES.len()],
+        map: ControlMap(joined(map_low, map_high)),
         work: work % 2,
         decoded,
         held: held.checked_sub(1),
-        register: (low_half | high_half << 16) as u32,
+        register: joined(low, high),
         left: left % 256,
         zeros: zeros % 256,
         last: [LastBlock::None, LastBlock::Full, LastBlock::Other][last % 3],
@@ -1374,7 +1649,21 @@ fn receiver_of(numbers: [usize; 14]) -> Receiver {
     }
 }
 
-fn receiver_numbers(receiver: &Receiver) -> [usize; 14] {
+/// The modes by their numbers.
+const MODES: [Mode; 4] = [Mode::Off, Mode::Cobs, Mode::Plain, Mode::Escaped];
+
+/// A number of 32 bits by its halves, and its halves.
+fn joined(low: usize, high: usize) -> u32 {
+    (low | high << 16) as u32
+}
+
+fn halves(number: u32) -> [usize; 2] {
+    [number as usize % 0x1_0000, number as usize / 0x1_0000]
+}
+
+fn receiver_numbers(receiver: &Receiver) -> [usize; 17] {
+    let [register_low, register_high] = halves(receiver.register);
+    let [map_low, map_high] = halves(receiver.map.0);
     [
         usize::from(receiver.settings.0),
         receiver.work,
@@ -1392,8 +1681,16 @@ fn receiver_numbers(receiver: &Receiver) -> [usize; 14] {
         receiver.refusal.map_or(0, usize::from),
         usize::from(receiver.agreed.width),
         usize::from(receiver.agreed.limit),
-        receiver.register as usize % 0x1_0000,
-        receiver.register as usize / 0x1_0000,
+        register_low,
+        register_high,
+        match receiver.mode {
+            Mode::Off => 0,
+            Mode::Cobs => 1,
+            Mode::Plain => 2,
+            Mode::Escaped => 3,
+        },
+        map_low,
+        map_high,
     ]
 }
 
@@ -1403,10 +1700,12 @@ fn part(at: usize, count: usize, whole: usize) -> std::ops::Range<usize> {
     begin..(begin + count).min(whole)
 }
 
-/// Both ends, the whole areas by their numbers, and the lengths with which these are lent.
+/// Both ends, the plain sender, the whole areas by their numbers, and the lengths with which these
+/// are lent.
 struct Bench<W: Write> {
     sender: Sender,
     receiver: Receiver,
+    plain_sender: PlainSender,
     areas: [Vec<u8>; AREAS],
     lengths: [usize; AREAS],
     lines: Lines<W>,
@@ -1416,7 +1715,8 @@ impl<W: Write> Bench<W> {
     fn new(output: W) -> Bench<W> {
         Bench {
             sender: Sender::fresh(Settings(0), Agreed::BASE),
-            receiver: Receiver::fresh(Settings(0), Agreed::BASE),
+            receiver: Receiver::fresh(Settings(0), Agreed::BASE, Mode::Off, ControlMap::EMPTY),
+            plain_sender: PlainSender::fresh(Agreed::BASE, Marks::EMPTY),
             areas: [END_AREA, END_AREA, END_AREA, END_AREA, OUT_AREA].map(|whole| vec![0; whole]),
             lengths: LENT,
             lines: Lines::new(output),
@@ -1443,10 +1743,18 @@ impl<W: Write> Bench<W> {
                 Ok(sender) => self.sender = sender,
                 Err(number) => self.lines.refused(number)?,
             },
-            Command::OpenReceiver(settings, agreed) => match Receiver::open(settings, agreed) {
-                Ok(receiver) => self.receiver = receiver,
-                Err(number) => self.lines.refused(number)?,
-            },
+            Command::OpenReceiver(settings, agreed, plain, map) => {
+                match Receiver::open(settings, agreed, plain, map) {
+                    Ok(receiver) => self.receiver = receiver,
+                    Err(number) => self.lines.refused(number)?,
+                }
+            }
+            Command::OpenPair(settings, agreed, map, marks) => {
+                match open_pair(settings, agreed, map, marks) {
+                    Ok(pair) => (self.plain_sender, self.receiver) = pair,
+                    Err(number) => self.lines.refused(number)?,
+                }
+            }
             Command::Load(name, packet) => self.load(name, packet)?,
             Command::Next(count) => self.next(count)?,
             Command::Receive(octets) => self.receive(octets)?,
@@ -1455,6 +1763,8 @@ impl<W: Write> Bench<W> {
             Command::Fill { area, at, octets } => self.fill(area, at, octets),
             Command::HandSender(sender) => self.sender = sender,
             Command::HandReceiver(receiver) => self.receiver = receiver,
+            Command::HandPlainSender(sender) => self.plain_sender = sender,
+            Command::SendPlain(packet) => self.send_plain(packet)?,
             Command::ShowStates => self.show_states()?,
             Command::ShowArea { area, at, count } => self.show_area(area, at, count)?,
         }
@@ -1511,6 +1821,19 @@ impl<W: Write> Bench<W> {
             }
         }
         Ok(())
+    }
+
+    fn send_plain(&mut self, packet: &[u8]) -> io::Result<()> {
+        let out = &mut self.areas[OUT][..self.lengths[OUT]];
+        match self.plain_sender.send(packet, out) {
+            Ok(length) => {
+                self.lines.begin(b'W');
+                self.lines.number(length);
+                self.lines.octets(&out[..length]);
+                self.lines.end()
+            }
+            Err(number) => self.lines.refused(number),
+        }
     }
 
     /// What lies beyond the whole area is dropped; an area that is not there takes nothing.

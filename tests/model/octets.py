@@ -3,12 +3,13 @@
 
     python3 octets.py --library PATH [--cases N] [--seed S]
 
-A case is 64 octets, two areas, and some calls on them. The octets spell a state, in bounds or not, or none, with a
-width of 16 bits, of 32 or a wrong one, and any limit. Of each call the answer, all 64 octets, both areas and what lies
-around them must be what the model answers and leaves, whose numbers are packed and unpacked here. Prints one line, and
-exits 1 at the first difference, or if a run of full size did not see every answer of every call, restarts with something
-held and registers of what is held that are wrong or out of bounds among them, at either width, and most of them with a limit
-of 16,384.
+A case is 64 octets, two areas, and some calls on them; or the 64 octets of a plain sender, one area and a packet; or both
+states of a pair to be opened. The octets spell a state, in bounds or not, or none, with a width of 16 bits, of 32 or a wrong
+one, and any limit. Of each call the answer, all 64 octets, the areas and what lies around them must be what the model answers
+and leaves, whose numbers are packed and unpacked here. Prints one line, and exits 1 at the first difference, or if a run of
+full size did not see every answer of every call, restarts with something held, registers of what is held that are wrong or
+out of bounds, and plain PPP read, sent and out of bounds among them, at either width, and most of them with a limit of
+16,384.
 """
 import argparse
 import collections
@@ -19,18 +20,21 @@ import subprocess
 import sys
 import tempfile
 
-from compare import (FLAG, LIMIT, LIMITS, REGISTER, REMEMBERED_GOOD, SHOW_STATES, START, WIDTH, WIDTHS, Agreed, build_model,
-                     encoded, fcs, fill, halves, hand_receiver, hand_sender, lend, load_high, load_low, next_octets,
-                     open_receiver, open_sender, receive, register_over, show, some_register, within, wrong_limit,
+from compare import (COBS, ESCAPE, ESCAPED, FLAG, LIMIT, LIMITS, MODE, OFF, PLAIN, REGISTER, REMEMBERED_GOOD, SHOW_STATES,
+                     START, WIDTH, WIDTHS, Agreed, build_model, encoded, fcs, fill, halves, hand_plain_sender,
+                     hand_receiver, hand_sender, lend, lend_out, line_length, load_high, load_low, marks, next_octets,
+                     open_pair, open_receiver, open_sender, out_of_bounds_marks, plain_piece, receive, refused_marks,
+                     register_over, send_plain, show, some_map, some_marks, some_register, within, wrong_limit,
                      wrong_register, wrong_width)
 
-FULL = 20_000       # cases of a run of full size
+FULL = 25_000       # cases of a run of full size
 BATCH = 500         # cases that the model is asked in one run
 STATE = 64
-LONGEST_AREA, LONGEST_LINE = 18500, 16500
+LONGEST_AREA, LONGEST_LINE, LONGEST_OUT = 18500, 16500, 40960
+OUT = 4             # the driver's area that a plain sender writes to
 GUARD = 32          # octets behind each area, and on both sides of the state, that nobody may write
-QUIET, PACKET, HELD, REFUSED, DONE, OCTET, IDLE = range(7)
-OF_FRAMES = (*range(5, 15), 21)  # refusals that report a frame
+QUIET, PACKET, HELD, REFUSED, DONE, OCTET, IDLE, WRITTEN = range(8)
+OF_FRAMES = (*range(5, 15), 18, 21)  # refusals that report a frame
 
 
 # ------------------------------------------------------------------------------------------------
@@ -41,24 +45,25 @@ class ReceiverOctets:
     """0 one, 1 width, 2-3 limit, 4 settings, 5 mode, 6-9 map, 10 work area, 11-12 decoded, 13-15 held, 16-19 register,
     20 data left, 21 zeros due, 22 last block, 23 in a frame, 24 resumed, 25 remembered refusal."""
     layout = struct.Struct("<BBHBBIBHBHIBBBBBB")
-    bounded = {10: 1, 13: 1, 22: 2, 23: 1, 24: 1}  # places, and the largest value there that spells something
-    largest = (255, 1, 65535, 65536, 255, 255, 2, 1, 1, 255, 255, *[65535] * 3)  # of each number, as far as its field goes
+    bounded = {5: 3, 10: 1, 13: 1, 22: 2, 23: 1, 24: 1}  # places, and the largest value there that spells something
+    largest = (255, 1, 65535, 65536, 255, 255, 2, 1, 1, 255, 255, *[65535] * 3, 3, 65535,
+               65535)  # of each number, as far as its field goes
 
     @classmethod
     def pack(cls, numbers, rng=None):
-        """The octets of a state; with rng, any in the fields that are not looked at."""
-        settings, work, decoded, held, left, zeros, last, in_frame, resumed, refusal, width, limit, low, high = numbers
-        mode, plain, count = ((0, 0, 0) if rng is None else
-                              (rng.randrange(256), rng.getrandbits(32), rng.choice((1, 2051, 2052, 2053, 2054, 65535))))
-        return cls.layout.pack(1, width, limit, settings, mode, plain, work, decoded, held > 0, held - 1 if held else count,
-                               low | high << 16, left, zeros, last, in_frame, resumed, refusal)
+        """The octets of a state; with rng, any held count where nothing is held, which is not looked at."""
+        settings, work, decoded, held, left, zeros, last, in_frame, resumed, refusal, width, limit, *ends = numbers
+        low, high, mode, map_low, map_high = ends
+        count = 0 if rng is None else rng.choice((1, 2051, 2052, 2053, 2054, 65535))
+        return cls.layout.pack(1, width, limit, settings, mode, map_low | map_high << 16, work, decoded, held > 0,
+                               held - 1 if held else count, low | high << 16, left, zeros, last, in_frame, resumed, refusal)
 
     @classmethod
     def unpack(cls, octets):
-        (_, width, limit, settings, _, _, work, decoded, something, count, register, left, zeros, last, in_frame, resumed,
+        (_, width, limit, settings, mode, control, work, decoded, something, count, register, left, zeros, last, in_frame, resumed,
          refusal) = cls.layout.unpack(octets[:cls.layout.size])
         return [settings, work, decoded, count + 1 if something else 0, left, zeros, last, in_frame, resumed, refusal,
-                width, limit, *halves(register)]
+                width, limit, *halves(register), mode, *halves(control)]
 
 
 class SenderOctets:
@@ -80,6 +85,22 @@ class SenderOctets:
         (_, width, limit, settings, lane, suspended, cut_due, low, low_at, high, high_at, left, zeros,
          _) = cls.layout.unpack(octets[:cls.layout.size])
         return [settings, low, low_at, high, high_at, left, zeros, lane, suspended, cut_due, width, limit]
+
+
+class PlainOctets:
+    """A plain sender: 0 one, 1 width, 2-3 limit, 4-35 the sending map, octet i / 8 of it with mark i at its bit i mod 8."""
+    layout = struct.Struct("<BBH32s")
+    bounded = {}
+
+    @classmethod
+    def pack(cls, agreed, sending):
+        return cls.layout.pack(1, *agreed, sending)
+
+    @classmethod
+    def unpack(cls, octets):
+        """Width and limit, and the octets that are marked."""
+        _, width, limit, sending = cls.layout.unpack(octets[:cls.layout.size])
+        return Agreed(width, limit), bytes(octet for octet in range(256) if sending[octet // 8] >> octet % 8 & 1)
 
 
 def spells(kind, octets):
@@ -131,16 +152,18 @@ def sender_numbers(rng, agreed):
     return [rng.choice((3, 3, 3, 2, 1, 0, rng.randrange(256))), *lanes, left, zeros, lane, suspended, cut_due, *agreed]
 
 
-def receiver_numbers(rng, agreed):
-    """A receiver in bounds, but for its register."""
+def receiver_numbers(rng, agreed, mode):
+    """A receiver in bounds, but for its register, mode and map."""
     settings, most = rng.choice((3, 3, 3, 3, 2, 1, 0, rng.randrange(256))), agreed.most
     work, held = rng.randrange(2), min(most + 1, rng.choice((0, 0, 1, 2, 9, most, most + 1, rng.randint(0, most + 1))))
-    if rng.random() < 0.3:
+    if rng.random() < 0.3 and mode != ESCAPED:
         return [settings, work, 0, held, 0, 0, 0, 0, 0, 0, *agreed]
     decoded = within(0, rng.choice((0, 0, 1, 4, 5, 6, 7, most - 11, *range(most - 3, most + 1), rng.randint(0, most))), most)
     left, zeros, last = rng.choice((0, 0, 0, 1, 2, 207, rng.randint(0, 207))), rng.randrange(3), rng.randrange(3)
-    refusal = rng.choice((0, 0, 0, rng.choice(REMEMBERED_GOOD)))
+    refusal = rng.choice((0, 0, 0, rng.choice([number for number in REMEMBERED_GOOD if number != 5 or mode == OFF])))
     held = 0 if refusal == 5 else held
+    if mode in (PLAIN, ESCAPED):
+        return [settings, work, decoded, held, 0, 0, 0, 1, rng.randrange(2), refusal, *agreed]
     resumed = 1 if refusal == 0 and last == 0 else rng.randrange(2)
     if refusal == 0 and last == 2 and left == 0:
         decoded = max(decoded, 1)
@@ -157,6 +180,10 @@ def with_register(rng, numbers, areas, agreed):
     elif way < 0.2 and not (held and agreed.width == 32):
         register = wrong_register(rng, agreed, held)
     return [*numbers, *halves(register)]
+
+
+def with_reading(rng, numbers, mode):
+    return [*numbers, mode, *halves(some_map(rng))]
 
 
 def disturbed(rng, kind, numbers):
@@ -228,7 +255,9 @@ def frame(rng, agreed, lengths=None):
 
 
 def line_piece(rng, agreed):
-    way = rng.randrange(12)
+    way = rng.randrange(16)
+    if way >= 12:
+        return plain_piece(rng, agreed)
     if way < 3:
         return FLAG
     if way < 5:
@@ -261,7 +290,10 @@ def load_library(path):
     octets, length, octet, number = ctypes.c_void_p, ctypes.c_size_t, ctypes.c_uint8, ctypes.c_uint32
     limit = ctypes.c_uint16
     for name, result, *arguments in (
-            ("receiver_open", number, octets, octet, octet, limit), ("sender_open", number, octets, octet, octet, limit),
+            ("receiver_open", number, octets, octet, octet, limit, octet, number),
+            ("sender_open", number, octets, octet, octet, limit),
+            ("pair_open", number, octets, octets, octet, octet, limit, number, octets),
+            ("plain_send", number, octets, octets, length, octets, length),
             ("receive", number, octets, octet, octets, length, octets, length),
             ("read_on", Stretch, octets, octets, length, octets, length, octets, length),
             ("load_low", number, octets, octets, length, octets, length),
@@ -295,6 +327,11 @@ class Memory:
 Call = collections.namedtuple("Call", "name operand answer count spelt at state areas line lengths")
 
 
+# A call on a plain sender, or on a pair: name and operand, answer; of each state its memory before and after, and how many of
+# the guard are before it; the area's memory before and after
+PlainCall = collections.namedtuple("PlainCall", "name operand answer states area")
+
+
 class Bench:
     """A case's memory, the library's calls on it, and the script and expectations that come of them."""
 
@@ -302,29 +339,33 @@ class Bench:
         self.library, self.rng = library, rng
         self.state, self.line = Memory(STATE + 8), Memory(LONGEST_LINE)
         self.areas = Memory(LONGEST_AREA), Memory(LONGEST_AREA)
+        self.plain, self.out = Memory(STATE + 8), Memory(LONGEST_OUT)
 
     def case(self):
         """Makes a case: yields its calls, each with the commands for the model (none where it is not asked)."""
+        way = self.rng.random()
+        if way < 0.06:
+            yield self.pair_open()
+        elif way < 0.2:
+            yield self.plain_send()
+        else:
+            yield from self.end_case()
+
+    def end_case(self):
+        """A case of a receiver, or of a sender."""
         rng = self.rng
-        self.receiving = rng.random() < 0.5
+        self.receiving = rng.random() < 0.55
         self.kind = ReceiverOctets if self.receiving else SenderOctets
         agreed, wrong = some_agreed(rng), rng.random() < 0.2
         base = 2 if self.receiving else 0
         least = agreed.areas[base]
         lengths = [rng.choice((0, 1, least - 1, least, least)) if wrong else area_length(rng, least) for _ in range(2)]
         areas = [content(rng, length) for length in lengths]
-        numbers = (receiver_numbers if self.receiving else sender_numbers)(rng, agreed)
-        first = None
-        if self.receiving and rng.random() < 0.5:
-            make = rng.choice((*[self.frame_decoded] * 5, *[self.frame_held] * 3, *[self.remembering] * 2,
-                               *[self.restarting] * 3, *[self.changing] * 3))
-            numbers, first = make(areas, agreed)
-        if self.receiving and len(numbers) == REGISTER:
-            numbers = with_register(rng, numbers, areas, agreed)
+        numbers, first = self.receiver(areas, agreed) if self.receiving else (sender_numbers(rng, agreed), None)
         if rng.random() < 0.25:
             numbers = disturbed(rng, self.kind, numbers)
         if wrong:
-            numbers[WIDTH:REGISTER] = wrong_agreed(rng, agreed)
+            numbers[WIDTH:LIMIT + 1] = wrong_agreed(rng, agreed)
         octets = self.kind.pack(numbers, rng if rng.random() < 0.6 else None)
         octets += rng.randbytes(STATE - len(octets))
         if rng.random() < (0.3 if wrong else 0.13):
@@ -343,6 +384,23 @@ class Bench:
                 commands = b""
             first = None
 
+    def receiver(self, areas, agreed):
+        """A receiver's numbers, and octets that are to come first, or None."""
+        rng, first = self.rng, None
+        mode = rng.choice((OFF, OFF, COBS, COBS, PLAIN, PLAIN, ESCAPED))
+        if rng.random() < 0.4:
+            numbers = receiver_numbers(rng, agreed, mode)
+        elif mode in (OFF, COBS):
+            make = rng.choice((*[self.frame_decoded] * 5, *[self.frame_held] * 3, *[self.remembering] * 2,
+                               *[self.restarting] * 4, *[self.changing] * 3))
+            numbers, first = make(areas, agreed)
+        else:
+            make = rng.choice((*[self.plain_decoded] * 4, *[self.plain_full] * 2, self.plain_wrong, self.plain_going_on))
+            numbers, first = make(areas, agreed, mode)
+        if len(numbers) == REGISTER:
+            numbers = with_register(rng, numbers, areas, agreed)
+        return with_reading(rng, numbers, mode), first
+
     def frame_decoded(self, areas, agreed):
         """A whole frame in the work area, its flag to come."""
         rng, work = self.rng, self.rng.randrange(2)
@@ -351,6 +409,37 @@ class Bench:
         numbers = [rng.choice((3, 2, 1, 0)), work, len(octets), rng.choice((0, 1, 5, agreed.most + 1)), 0, 0, 2, 1,
                    rng.randrange(2), 0, *agreed]
         return numbers, FLAG
+
+    def plain_decoded(self, areas, agreed, _mode):
+        """The same in plain reading, without the zero at its end."""
+        numbers, first = self.frame_decoded(areas, agreed)
+        numbers[2], numbers[6] = numbers[2] - self.rng.choice((1, 1, 1, 0)), 0
+        return numbers, first
+
+    def plain_full(self, _areas, agreed, _mode):
+        """As many octets of a plain frame as there may be, or one more or less; another, an escape or the flag to come."""
+        rng = self.rng
+        numbers = [rng.choice((3, 2, 1, 0)), rng.randrange(2), agreed.longest + rng.choice((-1, 0, 0, 1)), rng.choice((0, 0, 1, 3)),
+                   0, 0, 0,
+                   1, rng.randrange(2), 0, *agreed]
+        return numbers, rng.choice((FLAG, b"A", ESCAPE, b"AA" + FLAG, ESCAPE + b"A" + FLAG, ESCAPE + FLAG))
+
+    def plain_wrong(self, _areas, agreed, mode):
+        """Plain reading out of bounds by one thing: data left, zeros due, a last block; 5 remembered; an escape out of a frame."""
+        rng = self.rng
+        numbers = receiver_numbers(rng, agreed, mode)
+        kind = rng.randrange(5)
+        if kind < 3:
+            numbers[7], numbers[4 + kind] = 1, rng.choice((1, 2))
+        elif kind == 3:
+            numbers[3], numbers[7], numbers[9] = 0, 1, 5
+        else:
+            numbers[2], numbers[7:10] = 0, (0, 0, 0)
+        return numbers, rng.choice((FLAG, b"\xff", ESCAPE, b"A"))
+
+    def plain_going_on(self, _areas, agreed, mode):
+        """Octets of plain PPP to come."""
+        return receiver_numbers(self.rng, agreed, mode), plain_piece(self.rng, agreed) or FLAG
 
     def frame_held(self, areas, agreed):
         """The beginning of a frame in the area that holds, its rest to come."""
@@ -370,9 +459,9 @@ class Bench:
         return numbers, rng.choice((FLAG, FLAG, b"\xff", b"\xd1", b"1"))
 
     def restarting(self, _areas, agreed):
-        """Something held, FF to come."""
+        """Something held, seldom nothing, and FF to come."""
         rng = self.rng
-        numbers = [rng.choice((3, 3, 2, 1, 0)), rng.randrange(2), 0, rng.choice((1, 2, agreed.most + 1)), *[0] * 6, *agreed]
+        numbers = [rng.choice((3, 3, 2, 1, 0)), rng.randrange(2), 0, rng.choice((0, 1, 2, agreed.most + 1)), *[0] * 6, *agreed]
         return numbers, b"\xff" + rng.choice((*[b""] * 4, FLAG, b"\x03\xc0\x21" + FLAG, rng.randbytes(3)))
 
     def changing(self, areas, agreed):
@@ -436,9 +525,51 @@ class Bench:
         rng, agreed = self.rng, some_agreed(self.rng)
         settings, agreed = rng.randrange(256), rng.choice((agreed, wrong_agreed(rng, agreed)))
         name, command = ("receiver_open", open_receiver) if self.receiving else ("sender_open", open_sender)
-        answer = getattr(self.library, "kuta_" + name)(self.state.lent, settings, *agreed)
-        made = self.made(name, (settings, *agreed), answer, 0)
-        return made, command(settings, *agreed) + SHOW_STATES
+        given = settings, *agreed, *((rng.choice((0, 0, 1, 1, 2, 255)), some_map(rng)) if self.receiving else ())
+        answer = getattr(self.library, "kuta_" + name)(self.state.lent, *given)
+        made = self.made(name, given, answer, 0)
+        return made, command(*given) + SHOW_STATES
+
+    def put_state(self, memory, octets):
+        """Puts a state's octets into memory, others behind them up to 64, and others around."""
+        shift = GUARD + self.rng.randrange(8)
+        memory.put(self.rng, self.rng.randbytes(shift) + octets + self.rng.randbytes(STATE - len(octets)), shift)
+
+    def pair_open(self):
+        """Both states' octets are whatever they are."""
+        rng, agreed, control = self.rng, some_agreed(self.rng), some_map(self.rng)
+        agreed = Agreed(*rng.choice((agreed, agreed, wrong_agreed(rng, agreed))))
+        sending = marks(rng.choice((some_marks(rng, control), refused_marks(rng, control)[0])))
+        self.put_state(self.plain, rng.randbytes(STATE))
+        self.put_state(self.state, rng.randbytes(STATE))
+        settings = rng.randrange(256)
+        answer = self.library.kuta_pair_open(self.plain.lent, self.state.lent, settings, *agreed, control, sending)
+        states = [(memory.whole, memory.octets(), memory.before) for memory in (self.plain, self.state)]
+        made = PlainCall("pair_open", (settings, *agreed, control, sending), answer, states, (b"", b""))
+        return made, open_pair(settings, *agreed, control, sending) + SHOW_STATES
+
+    def plain_send(self):
+        """A plain sender in bounds, with marks out of bounds, a wrong width or limit, or no state; and an area that is exactly long
+        enough, one octet too short, or any."""
+        rng, agreed = self.rng, some_agreed(self.rng)
+        marked = rng.choice((some_marks(rng, 0) + b"\x7d\x7e", some_marks(rng, 0) + b"\x7d\x7e", out_of_bounds_marks(rng)[0]))
+        octets = PlainOctets.pack(rng.choice((agreed, agreed, agreed, wrong_agreed(rng, agreed))), marks(marked))
+        if rng.random() < 0.2:
+            octets = bytes((rng.choice((0, 2, 255, rng.randrange(2, 256))),)) + octets[1:]
+        self.put_state(self.plain, octets)
+        limit = agreed.limit
+        packet = content(rng, rng.choice((0, 1, 2, 2, 3, min(limit, 40), limit - 1, limit, limit, limit + 1)))
+        count = line_length(packet, agreed, {*marked})
+        length = min(LONGEST_OUT, rng.choice((count, count, count, count - 1, count + rng.randrange(40), 0, 1, 2,
+                                              rng.randrange(count + 1))))
+        self.out.put(rng, rng.randbytes(length))
+        answer = self.library.kuta_plain_send(self.plain.lent, packet or rng.choice((None, packet)), len(packet), self.out.lent,
+                                              length)
+        made = PlainCall("plain_send", packet, answer, [(self.plain.whole, self.plain.octets(), self.plain.before)],
+                         (self.out.whole, self.out.octets()))
+        agreed, marked = PlainOctets.unpack(octets)
+        return made, (lend_out(length) + fill(OUT, 0, self.out.whole[:length]) + hand_plain_sender(*agreed, marks(marked))
+                      + send_plain(packet) + show(OUT, 0, length))
 
     def receive(self, octets=None):
         rng = self.rng
@@ -511,7 +642,8 @@ def answer_of(said):
 
 
 def rest_in_bounds(numbers, most):
-    """Whether a receiver is in bounds, its register left aside, and that 5 is not remembered with something held."""
+    """Whether a receiver is in bounds, left aside its register, that 5 is remembered with nothing held and plain reading off
+    alone, that there is no block in plain reading, and no escape open out of a frame."""
     _, _, decoded, held, left, zeros, last, in_frame, resumed, refusal, *_ = numbers
     if max(decoded, held - 1) > most or left > 207 or zeros > 2:
         return False
@@ -519,27 +651,41 @@ def rest_in_bounds(numbers, most):
         return not (decoded or left or zeros or last or resumed or refusal)
     if refusal:
         return refusal in REMEMBERED_GOOD
-    return bool(resumed if last == 0 else last == 1 or left or decoded)
+    return numbers[MODE] in (PLAIN, ESCAPED) or bool(resumed if last == 0 else last == 1 or left or decoded)
+
+
+def why_out_of_bounds(numbers, agreed):
+    """What alone makes a receiver be out of bounds; nothing where it is more than one thing, or another one."""
+    held, mode, refusal = numbers[3], numbers[MODE], numbers[9]
+    register, plain = numbers[REGISTER] | numbers[REGISTER + 1] << 16, mode in (PLAIN, ESCAPED)
+    reasons = ["-5-held"] * (refusal == 5 and held > 0) + ["-5-on"] * (refusal == 5 and mode != OFF)
+    reasons += ["-register"] * (register > agreed.start if held else register != agreed.start)
+    reasons += ["-block"] * (plain and any(numbers[4:7])) + ["-escape"] * (mode == ESCAPED and not numbers[7])
+    return reasons[0] if len(reasons) == 1 and rest_in_bounds(numbers, agreed.most) else ""
 
 
 def of_held(call):
-    """How an answer is called beside its usual name: where a receiver is out of bounds only since it holds something with 5
-    remembered, or only by its register; and where it lets go what it holds, by FF or by a D1 that is refused 21."""
+    """How an answer is called beside its usual name: where a receiver is out of bounds by one thing alone; where it lets go what
+    it holds, by FF or by a D1 that is refused 21; where an FF makes it read plain; and where it reads plain."""
     agreed = agreed_of(call)
     if place_of(call) == 0 or not agreed.good or not spells(ReceiverOctets, call.spelt):
         return ""
     numbers = ReceiverOctets.unpack(call.spelt)
-    (bits, work, _, held, *_), in_frame, refusal = numbers, numbers[7], numbers[9]
-    register = numbers[REGISTER] | numbers[REGISTER + 1] << 16
+    (bits, work, _, held, *_), in_frame, mode = numbers, numbers[7], numbers[MODE]
     if call.answer == REFUSED << 24 | 3:
-        good = register <= agreed.start if held else register == agreed.start
-        five = refusal == 5 and held > 0
-        return ("-5-held" * (five and good) + "-register" * (not five and not good)) * rest_in_bounds(numbers, agreed.most)
-    if not held or in_frame:
+        return why_out_of_bounds(numbers, agreed)
+    if mode in (PLAIN, ESCAPED):
+        return "-plain" * (call.answer >> 24 == PACKET or call.answer in [REFUSED << 24 | number for number in (10, 13, 14)])
+    if in_frame or call.answer == REFUSED << 24 | 2:
+        return ""
+    if call.operand[:1] == b"\xff" and mode == COBS:
+        return ("-restart-held" if held else "-restart") * (call.answer == QUIET)
+    if not held:
         return ""
     if call.operand[:1] == b"\xff":
         return "-let-go" * (call.answer in (QUIET, REFUSED << 24 | 5))
     if call.operand[:1] == b"\xd1" and bits & 2 and call.answer in (QUIET, REFUSED << 24 | 21):
+        register = numbers[REGISTER] | numbers[REGISTER + 1] << 16
         return "-changed" * (register_over(call.areas[1 - work][0][:held - 1], agreed.width) != register)
     return ""
 
@@ -548,7 +694,7 @@ def label(call, no_state):
     """What an answer is called in the line that is printed."""
     kind, mark, value = call.answer >> 24, call.answer >> 16 & 1, call.answer & 0xFFFF
     if held := of_held(call):
-        return (f"R{value}" if kind == REFUSED else "quiet") + held
+        return (f"R{value}" if kind == REFUSED else f"P{mark}" if kind == PACKET else "quiet") + held
     if kind == REFUSED:
         return f"R{value}" + "-short" * too_short(call) + "-no-state" * no_state
     if call.name == "write_on" and kind == OCTET:
@@ -560,7 +706,7 @@ def label(call, no_state):
 
 def agreed_of(call):
     """The width and the limit that a call is handed, by the 64 octets or to open with."""
-    return Agreed(*call.operand[1:]) if call.name.endswith("open") else agreed_in(call.spelt)
+    return Agreed(*call.operand[1:3]) if call.name.endswith("open") else agreed_in(call.spelt)
 
 
 def words(agreed):
@@ -588,8 +734,10 @@ def shortest(call):
     return min({"load_low": call.lengths[:1], "load_high": call.lengths[1:]}.get(call.name, call.lengths))
 
 
-REPORTS = ["quiet", "quiet-let-go", "quiet-changed", "P0", "P1", "H0", "H1", "R2", "R2-no-state", "R3", "R3-no-state",
-           "R3-5-held", "R3-register", *(f"R{n}" for n in OF_FRAMES)]
+REPORTS = ["quiet", "quiet-let-go", "quiet-changed", "quiet-restart", "quiet-restart-held", "P0", "P1", "P0-plain", "P1-plain",
+           "H0",
+           "H1", "R2", "R2-no-state", "R3", "R3-no-state", "R3-5-held", "R3-5-on", "R3-register", "R3-block", "R3-escape",
+           *(f"R{n}" for n in OF_FRAMES), "R10-plain", "R13-plain", "R14-plain"]
 LOADS = ["done", "R1", "R2", "R2-no-state", "R3", "R3-no-state", "R4"]
 ENDS = ["idle", "R2", "R2-no-state", "R3", "R3-no-state"]
 ANSWERS = {"receive": REPORTS, "read_on": ["nothing", *REPORTS, "R5-let-go", "R21-changed"], "load_low": LOADS,
@@ -598,12 +746,17 @@ ANSWERS = {"receive": REPORTS, "read_on": ["nothing", *REPORTS, "R5-let-go", "R2
 WANTED = {(name, f"{width} bits"): answers for name, answers in ANSWERS.items() for width in WIDTHS}
 WANTED |= {(name, wrong): ["R3", "R3-no-state", "R3-short", "R3-short-no-state"] + ["nothing"] * ("nothing" in answers)
            for name, answers in ANSWERS.items() for wrong in ("wrong width", "wrong limit", "wrong width and limit")}
-WANTED |= {(f"{end}_open", about): [answer] for end in ("receiver", "sender") for about, answer in (
-    ("16 bits", "done"), ("32 bits", "done"), ("wrong width", "R3"), ("wrong limit", "R23"), ("wrong width and limit", "R23"))}
+OPENED = (("16 bits", "done"), ("32 bits", "done"), ("wrong width", "R3"), ("wrong limit", "R23"), ("wrong width and limit", "R23"))
+WANTED |= {(f"{end}_open", about): [answer] for end in ("receiver", "sender") for about, answer in OPENED}
+WANTED |= {("pair_open", about): ["done", "R19"] if answer == "done" else [answer] for about, answer in OPENED}
+# A plain sender that is no state, and one with marks out of bounds: 3, behind 2.
+WANTED |= {("plain_send", about): ["written", "R1", "R2", "R2-no-state", "R3", "R3-no-state"] if answer == "done" else
+           ["R3", "R3-no-state", "R3-short"] for about, answer in OPENED}
 # Of these at least some must be with a limit of 16,384.
-LONGEST = {"receive": ["quiet", "quiet-let-go", "quiet-changed", "P0", "P1", "H0", "R2", "R3", "R3-5-held", "R3-register",
-                       "R14"],
-           "read_on": ["quiet", "P0", "P1", "R2", "R3", "R3-register", "R5-let-go", "R10", "R21-changed"],
+LONGEST = {"receive": ["quiet", "quiet-let-go", "quiet-changed", "quiet-restart-held", "P0", "P1", "P0-plain", "H0", "R2", "R3",
+                       "R3-5-held", "R3-register", "R3-block", "R14", "R18"],
+           "read_on": ["quiet", "P0", "P1", "R2", "R3", "R3-register", "R5-let-go", "R10", "R10-plain", "R21-changed"],
+           "pair_open": ["done", "R19"], "plain_send": ["written", "R1", "R2", "R3"],
            "load_low": ["done", "R1", "R2", "R3", "R4"], "load_high": ["done", "R1", "R2", "R3", "R4"],
            "next": ["octet", "idle", "R2", "R3"], "write_on": ["flag", "room", "idle", "R2", "R3"]}
 
@@ -644,8 +797,57 @@ def told(call, lines):
     return (said or [""])[-1], [int(number) for number in states[call.name in ("receive", "read_on", "receiver_open")]]
 
 
+def refusal_in(answer):
+    return answer & 0xFFFF if answer >> 24 == REFUSED else None
+
+
+def pair_opened(call, lines):
+    """The answer that a pair's opening is to have, both states' octets behind it, and what it is called."""
+    _, width, limit, _, sending = call.operand
+    said = []
+    for line in lines:
+        if line[0] == "S":
+            break
+        said.append(line)
+    numbers = [int(number) for number in next(lines).split()[1:]]
+    answer = answer_of(said[0] if said else "D")
+    octets = [b"", b""]
+    if answer == DONE << 24:
+        marked = int.from_bytes(sending, "little") | 1 << 0x7D | 1 << 0x7E
+        octets = [PlainOctets.pack((width, limit), marked.to_bytes(32, "little")), ReceiverOctets.pack(numbers)]
+    number = refusal_in(answer)
+    return answer, octets, b"", Agreed(width, limit), f"R{number}" if number else "done"
+
+
+def plain_sent(call, lines):
+    """The same of a plain sender's call, and the area: where the octets are no state, it is 3 behind 2."""
+    (before, _, at), = call.states
+    agreed, no_state = agreed_in(before[at:at + STATE]), before[at] != 1
+    said, area = next(lines), bytes.fromhex(next(lines)[1:])
+    answer = WRITTEN << 24 | int(said.split()[1]) if said[0] == "W" else answer_of(said)
+    if no_state and refusal_in(answer) != 2:
+        answer, area = REFUSED << 24 | 3, call.area[0][:len(area)]
+    number = refusal_in(answer)
+    name = f"R{number}" + "-no-state" * no_state if number else "written"
+    return answer, [b""], area, agreed, "R3-short" if not agreed.good and len(area) < 3 else name
+
+
+def check_plain(call, lines, seen, longest):
+    """Holds a call on a plain sender or a pair against the model."""
+    answer, octets, area, agreed, name = (pair_opened if call.name == "pair_open" else plain_sent)(call, lines)
+    must(call.answer == answer, "answer", f"{call.answer:08X}", f"{answer:08X}")
+    for (before, after, at), new in zip(call.states, octets):
+        same("state and the octets around it", after, before[:at] + new + before[at + len(new):])
+    same("area", call.area[1], area + call.area[0][len(area):])
+    seen[call.name, words(agreed), name] += 1
+    if agreed.good and agreed.limit == 16384:
+        longest[call.name, name] += 1
+
+
 def check(call, asked, lines, seen, longest):
     """Holds one call against the model, or against the rule where the model is not asked."""
+    if isinstance(call, PlainCall):
+        return check_plain(call, lines, seen, longest)
     kind = ReceiverOctets if call.name in ("receive", "read_on", "receiver_open") else SenderOctets
     (before, after), areas = call.state, [area for area, _ in call.areas]
     wanted = before
@@ -681,6 +883,19 @@ def check(call, asked, lines, seen, longest):
         longest[call.name, answered] += 1
 
 
+def described(call):
+    """A call for somebody who looks for a difference."""
+    operand = call.operand.hex(" ") if isinstance(call.operand, bytes) else call.operand
+    if isinstance(call, PlainCall):
+        states = "".join(f"\n  state handed in: {before[at:at + STATE].hex(' ')}" for before, _, at in call.states)
+        length = max(0, len(call.area[0]) - GUARD)
+        return f"kuta_{call.name}, operand {operand}, area of {length} octets{states}\n  answer {call.answer:08X}"
+    areas = "\n         ".join(f"{whole[:min(length, 64)].hex(' ')}{' ..' * (length > 64)}"
+                               for (whole, _), length in zip(call.areas, call.lengths))
+    return (f"kuta_{call.name}, operand {operand}, areas of {call.lengths} octets\n  state handed in: {call.spelt.hex(' ')}\n"
+            f"  areas: {areas}\n  answer {call.answer:08X}, octets {call.count}")
+
+
 def compare(model, bench, cases, seen, longest):
     """A batch of cases; the library's calls first, then the model's."""
     calls = [(number, *call) for number in cases for call in bench.case()]
@@ -691,12 +906,7 @@ def compare(model, bench, cases, seen, longest):
         try:
             check(call, asked, lines, seen, longest)
         except Different as why:
-            operand = call.operand.hex(" ") if isinstance(call.operand, bytes) else call.operand
-            print(f"DIFFERENT: case {number}, kuta_{call.name}, operand {operand}, areas of {call.lengths} octets\n"
-                  f"  state handed in: {call.spelt.hex(' ')}\n  areas: " + "\n         ".join(
-                      f"{whole[:min(length, 64)].hex(' ')}{' ..' * (length > 64)}"
-                      for (whole, _), length in zip(call.areas, call.lengths)) +
-                  f"\n  answer {call.answer:08X}, octets {call.count}\n  {why}")
+            print(f"DIFFERENT: case {number}, {described(call)}\n  {why}")
             sys.exit(1)
     if next(lines, None) is not None:
         sys.exit("the model said more than was asked")

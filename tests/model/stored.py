@@ -6,14 +6,14 @@
     tests/captures/NAME.octets      a capture
     tests/captures/NAME.lines       what the capture program prints for it
     tests/captures/NAME.counts      what the count program prints for it
-    tests/scripts/NAME.script       commands for the exercise driver; base, width, limit, restart and areas have the
-                                    tables below
+    tests/scripts/NAME.script       commands for the exercise driver; base, width, limit, restart, areas and plain have
+                                    the tables below
     tests/scripts/NAME.answers      what the driver writes for them
     crates/count/stdin, stdout      the capture stale-fragment, and its counts
 
 Every entry of a table has, beside its commands, the answers that the documents ask for, written
 down by hand (a text: the answers of calls; a list: every line, with states and areas shown); the
-small scripts likewise. They are held against the model's output before a script is stored.
+small scripts and the capture plain likewise. They are held against the model's output before it is stored.
 --explain prints each entry with its lines. Seeds are fixed: the same files come out each time.
 """
 import os
@@ -21,9 +21,9 @@ import random
 import sys
 import tempfile
 
-from compare import (FLAG, HERE, WHOLE_AREAS, WIDTHS, Programs, build_model, fcs, fill, halves, hand_receiver, hand_sender,
-                     lend, lend_out, lent, load_high, load_low, next_octets, open_receiver, open_sender, packet, receive,
-                     register_over, sent_octets, show, zero_free)
+from compare import (FLAG, HERE, WHOLE_AREAS, WIDTHS, Programs, build_model, fcs, fill, halves, hand_plain_sender, hand_receiver,
+                     hand_sender, lend, lend_out, lent, load_high, load_low, marks, next_octets, open_pair, open_receiver,
+                     open_sender, packet, receive, register_over, send_plain, sent_octets, show, stuffed, zero_free)
 
 
 def hx(text):
@@ -132,7 +132,7 @@ def stale_fragment(programs):
         later_rest,                                     # joined to that: 14
         older_begun, b"\xd1" + FLAG, later_rest,        # D1 alone loses what is held: 9, then 8
         older_begun, b"\xd2" + FLAG, b"\xd3" + FLAG, later_rest,  # refused, what is held stays: 14
-        older_begun, b"\xd2" + FLAG, b"\xff" + FLAG, b"\xd3" + FLAG, later_rest,  # a restart lets it go: 8
+        older_begun, b"\xd2" + FLAG, b"\xff" + FLAG, b"\xd3" + FLAG, later_rest,  # a restart: what follows is read plain, 13 and 14
     ))
 
 
@@ -146,24 +146,22 @@ def suspended_line(programs, rng):
 
 
 def restart(programs):
-    """A peer restarts in the middle of a suspended packet."""
+    """A peer restarts in the middle of a suspended packet, and then again and again: from the first FF on all is read as plain
+    PPP, what is COBS too."""
     rng = random.Random(11)
     parts = []
-    for n in range(40):
+    for n in range(24):
         begun, urgent, rest = suspended_line(programs, rng)
         again, other, whole = suspended_line(programs, rng)
         some = rng.randbytes(rng.choice((1, 3, 9))).replace(FLAG, b"1")
         ff = rng.choice((b"\xff", b"\xff\x03\xc0\x21\x01\x01\x00\x04", b"\xff" + some)) + FLAG
-        parts += (
-            (begun, urgent, ff, rest),                      # straight before the rest: 8
-            (begun, ff, urgent, rest),                      # straight behind the beginning: 8
-            (begun, ff, again, other, whole),               # another packet is suspended after it, and whole
-            (begun, urgent, ff, again, other, rest),        # joined to the other one's beginning: 14, if not both are empty
-            (begun, ff, rest, begun, urgent, rest),         # 8, then the same packet once more, and whole
-            (begun, ff[:-1], rest, rest),                   # its flag is lost: the rest is skipped, and then 8
-            (begun, ff, ff, urgent, ff, rest),              # several: 8
-            (begun, b"\xd2" + FLAG, urgent, rest),          # none, but another refused frame: whole
-        )[n % 8]
+        parts += (begun, b"\xd2" + FLAG, urgent, rest) if n < 8 else (  # none, but another refused frame: whole
+            (begun, urgent, ff, rest),                      # straight before the rest
+            (begun, ff, urgent, rest),                      # straight behind the beginning
+            (begun, ff, again, other, whole),               # another packet is suspended after it
+            (begun, ff[:-1], rest, rest),                   # its flag is lost
+            (begun, ff, ff, urgent, ff, rest),              # several
+        )[n % 5]
     return b"".join(parts)
 
 
@@ -184,14 +182,72 @@ def edges(programs):
         full * 10 + FLAG,
         full + FLAG, full + b"\x01" + FLAG, full[:-1] + FLAG, full * 2 + FLAG,
         b"\xd1" + full + FLAG,                          # onto the 206 held: 12
-        b"\xff" + FLAG, b"\xff\x03\xc0\x21" + FLAG,
         b"\xd1" + FLAG, b"\xd1\x01" + FLAG,             # nothing held: 8 and 8
         b"\x05\x31" + FLAG + b"\xd1" + FLAG,            # 9
         b"\xd2" + FLAG, b"\x01\xd1" + FLAG, b"\x01\xd2" + FLAG, b"\x01\xff" + FLAG,
         b"\x05" + FLAG, b"\x05\x31" + FLAG, b"\xd1\x05" + FLAG, b"\xd1\xff" + FLAG,
         b"\x01" + FLAG, b"\xd3" + FLAG, b"\xd4" + FLAG, b"\xd5" + FLAG, b"\x04\x31\x31\x31" + FLAG,
         b"\x05\x31\x31\x31\x31" + FLAG, FLAG * 3, b"\x00" + b"1" * 125 + FLAG, b"\x00" + b"1" * 124 + FLAG,
+        b"\xff" + FLAG, b"\xff\x03\xc0\x21" + FLAG,      # from here on plain PPP: 13 and 14
     ))
+
+
+# Plain PPP after a restart: octets, and the lines that they are to give, by hand.
+LONG_PLAIN = b"A" * 2050
+PLAIN_CAPTURE = (
+    ("E0 03 47 0F 7E", "P 2 00 00"),
+    ("05 31 7E", "H 1 0"),
+    ("FF 7D 23 C0 21 7D 21 7D 21 7D 20 7D 24 D1 B5 7E", "P 8 FF 03 C0 21 01 01 00 04"),  # Configure-Request
+    ("D1 01 7E", "R 13"),                               # read plain; nothing is held in any case
+    ("7E 7E 7E", ""),
+    ("FF 03 C0 21 01 01 00 04 D1 B5 7E", "P 8 FF 03 C0 21 01 01 00 04"),
+    ("FF 03 C0 21 01 01 00 05 D1 B5 7E", "R 14"),
+    ("7D 7E", "R 18"), ("FF 03 7D 7E", "R 18"), ("7D 7D 7D 7E", "R 18"),
+    ("FF 7E", "R 13"), ("FF 03 C0 7E", "R 13"), ("FF 03 C0 21 7E", "R 14"),
+    ("41 42 EF 31 7E", "P 2 41 42"),
+    ("41 42 EF 31 7D 7E", "R 18"),
+    ("7E 41 42 EF 31", ""), ("7E", "P 2 41 42"),
+    ("00 00 47 0F 7E", "P 2 00 00"),                    # 00 stays 00
+    ("7D 20 7D 20 47 7D 2F 7E", "P 2 00 00"),           # the same, escaped
+    ("7D 7D 7D 5D 7D 5E 5E CF 0C 7E", "P 4 5D 7D 7E 5E"),
+    ("7D 5E 41 1E 36 7E", "P 2 7E 41"),
+    ("7D 5E 11 41 1E 36 7E", "R 14"),                   # the map is empty: 11 is data
+    ("11 7E", "R 13"),
+    (LONG_PLAIN.hex() + "7E", "R 14"), (LONG_PLAIN.hex() + "41 7E", "R 10"), (LONG_PLAIN.hex() + "7D 7E", "R 18"),
+    (LONG_PLAIN.hex() + "7D 41 7E", "R 10"), (LONG_PLAIN.hex() + "41 7D 7E", "R 10"),
+    ((b"A" * 2048 + fcs(b"A" * 2048)).hex() + "7E", "P 2048" + " 41" * 2048),
+    ((b"A" * 2049 + fcs(b"A" * 2049)).hex() + "7E", "R 10"),
+    # COBS once more, read plain: the packets 41 42, 00 00 and 31 to 39, a fragment, refused frames.
+    ("05 41 42 EF 31 7E", "R 14"), ("E0 03 47 0F 7E", "R 14"), ("0C 31 32 33 34 35 36 37 38 39 6E 90 7E", "R 14"),
+    ("05 31 7E", "R 13"), ("D3 7E", "R 13"), ("D2 7E", "R 13"), ("D1 7E", "R 13"), ("FF 7E", "R 13"),
+    ("FF 03 C0", ""),                                   # not closed
+)
+
+
+def plain(_programs):
+    return b"".join(hx(octets) for octets, _ in PLAIN_CAPTURE)
+
+
+def plain_noise(_programs):
+    """Packets in plain PPP behind an FF frame, with noise: bits turned, octets lost and put in, flags lost."""
+    rng = random.Random(12)
+    line = []
+    for _ in range(80):
+        data = packet(rng, rng.choice((2, 3, 4, 9, 30, 60)))
+        frame = bytearray(stuffed(data + fcs(data), rng.choice((b"", bytes(range(0x20)), b"\x11\x13"))) + FLAG)
+        way = rng.randrange(9)
+        if way == 0:
+            frame[rng.randrange(len(frame))] ^= 1 << rng.randrange(8)
+        elif way == 1:
+            del frame[rng.randrange(len(frame))]
+        elif way == 2:
+            frame.insert(rng.randrange(len(frame)), rng.choice(b"\x7d\x7e\x00\x11\xff"))
+        elif way == 3:
+            frame[-1:] = b"\x7d\x7e"
+        elif way == 4:
+            del frame[-1]
+        line.append(bytes(frame))
+    return hx("05 31 7E FF 7E") + b"".join(line)
 
 
 def with_check_of_zeros(body):
@@ -243,6 +299,7 @@ def all_octets(_programs):
     return b"".join(bytes((octet,)) + hx("31 32 02 33 7E") for octet in range(256))
 
 
+CAPTURE_LINES = {"plain": "".join(f"{lines}\n" for _, lines in PLAIN_CAPTURE if lines)}  # asked for by hand
 CAPTURES = {
     "quiet-link": quiet_link,
     "urgent-traffic": urgent_traffic,
@@ -254,6 +311,8 @@ CAPTURES = {
     "edges": edges,
     "check-of-zeros": check_of_zeros,
     "every-length": every_length,
+    "plain": plain,
+    "plain-noise": plain_noise,
     "unclosed": unclosed,
     "empty": empty,
     "all-octets": all_octets,
@@ -291,13 +350,14 @@ def held_register(held, width):
 
 
 def receiver(settings=3, work=0, decoded=0, held=None, left=0, zeros=0, last=0, frame=0, resumed=0, refusal=0, width=16,
-             limit=2048, register=None):
-    """A receiver state; held None, the octets, or a count of the ramp's; last 0 none, 1 D0, 2 other. The register is that
-    of what is held, unless another is given; the octets themselves are put nowhere."""
+             limit=2048, register=None, mode=0, control=0):
+    """A receiver state; held None, the octets, or a count of the ramp's; last 0 none, 1 D0, 2 other; mode 0 off, 1 COBS,
+    2 plain, 3 plain behind an escape; `control` the receiving map. The register is that of what is held, unless another is
+    given; the octets themselves are put nowhere."""
     count = 0 if held is None else len(held_octets(held)) + 1
     register = held_register(held, width) if register is None else register
     return hand_receiver((settings, work, decoded, count, left, zeros, last, frame, resumed, refusal, width, limit,
-                          *halves(register)))
+                          *halves(register), mode, *halves(control)))
 
 
 def holding(held, work=0, **numbers):
@@ -305,13 +365,13 @@ def holding(held, work=0, **numbers):
     return fill(3 - work, 0, held_octets(held)) + receiver(work=work, held=held, **numbers)
 
 
-def told(numbers, width=16, limit=2048, held=None):
+def told(numbers, width=16, limit=2048, held=None, mode=0, control=0):
     """The receiver's line of `d`, by the ten numbers before width and limit. Its register is that of the octets held, which
     are the ramp's unless others are given."""
     count = int(numbers.split()[3])
     held = None if count == 0 else ramp(count - 1) if held is None else held
     assert count == (0 if held is None else len(held) + 1)
-    return " ".join(("T", numbers, *map(str, (width, limit, *halves(held_register(held, width))))))
+    return " ".join(("T", numbers, *map(str, (width, limit, *halves(held_register(held, width)), mode, *halves(control)))))
 
 
 def show_sender(at=0):
@@ -328,7 +388,7 @@ def fill_all():
 
 
 # --- What stands before the first command
-FRESH = ["S 0 0 0 0 0 0 0 0 0 0 16 2048", "T 0 0 0 0 0 0 0 0 0 0 16 2048 65535 0"]
+FRESH = ["S 0 0 0 0 0 0 0 0 0 0 16 2048", "T 0 0 0 0 0 0 0 0 0 0 16 2048 65535 0 0 0 0"]
 
 
 def start():
@@ -783,14 +843,14 @@ def script_format():
     yield "x, as many as there are", show(0, 20479, 65535) + show(4, 40959, 65535), ["X 70", "X C4"]
     yield ("f of nothing", fill(0, 0, b"") + fill(0, 20480, b"") + fill(9, 0, b"") + show(0, 0, 2), ["X A0 B0"])
     yield ("numbers too large count as remainders", hand_sender((259, 4, 0, 0, 0, 256, 258, 4, 2, 3, 272, 2048))
-           + hand_receiver((515, 2, 5, 65535, 257, 256, 5, 3, 2, 261, 544, 2048, 4660, 43981)) + D,
-           ["S 3 4 0 0 0 0 2 1 0 1 16 2048", "T 3 0 5 65535 1 0 2 1 0 5 32 2048 4660 43981"])
-    yield ("numbers as large as they can be", hand_sender((65535,) * 12) + hand_receiver((65535,) * 14) + D,
+           + hand_receiver((515, 2, 5, 65535, 257, 256, 5, 3, 2, 261, 544, 2048, 4660, 43981, 5, 7, 65535)) + D,
+           ["S 3 4 0 0 0 0 2 1 0 1 16 2048", "T 3 0 5 65535 1 0 2 1 0 5 32 2048 4660 43981 1 7 65535"])
+    yield ("numbers as large as they can be", hand_sender((65535,) * 12) + hand_receiver((65535,) * 17) + D,
            ["S 255 65535 65535 65535 65535 255 255 0 1 1 255 65535",
-            "T 255 1 65535 65535 255 255 0 1 1 255 255 65535 65535 65535"])
-    yield ("one below", hand_sender((65534,) * 12) + hand_receiver((65534,) * 14) + D,
+            "T 255 1 65535 65535 255 255 0 1 1 255 255 65535 65535 65535 3 65535 65535"])
+    yield ("one below", hand_sender((65534,) * 12) + hand_receiver((65534,) * 17) + D,
            ["S 254 65534 65534 65534 65534 254 254 2 0 0 254 65534",
-            "T 254 0 65534 65534 254 254 2 0 0 254 254 65534 65534 65534"])
+            "T 254 0 65534 65534 254 254 2 0 0 254 254 65534 65534 65534 2 65534 65534"])
     yield ("work area 3 is the second",
            hand_receiver((3, 3, 0, 0, 0, 0, 0, 0, 0, 0, 16, 2048, 65535, 0)) + receive(hx("E0 03 47 0F 7E")), "P 1 2 00 00")
     yield ("held 1 is a fragment of no octets",
@@ -893,24 +953,24 @@ def slip_examples():
 
 def openings():
     yield ("16 and 32", open_sender(1, 16) + open_receiver(2, 32) + D + open_sender(255, 32) + open_receiver(0, 16) + D,
-           ["S 1 0 0 0 0 0 0 0 0 0 16 2048", "T 2 0 0 0 0 0 0 0 0 0 32 2048 65535 65535",
-            "S 255 0 0 0 0 0 0 0 0 0 32 2048", "T 0 0 0 0 0 0 0 0 0 0 16 2048 65535 0"])
+           ["S 1 0 0 0 0 0 0 0 0 0 16 2048", "T 2 0 0 0 0 0 0 0 0 0 32 2048 65535 65535 0 0 0",
+            "S 255 0 0 0 0 0 0 0 0 0 32 2048", "T 0 0 0 0 0 0 0 0 0 0 16 2048 65535 0 0 0 0"])
     yield ("a refused opening leaves the end as it was", sender(low=(9, 2), high=(6, 0), left=3, zeros=1, line=1, width=32)
            + receiver(settings=2, work=1, held=7, width=32, **IN_BLOCK) + open_sender(0, 24) + open_receiver(1, 33) + D,
            ["R 3", "R 3", "S 3 9 2 6 0 3 1 1 0 0 32 2048", told("2 1 1 8 2 1 2 1 0 0", 32)])
     yield ("a refused opening leaves a state out of bounds too", sender(low=(3, 9), left=255, width=24)
            + receiver(decoded=9999, refusal=77, width=0) + open_sender(0, 0) + open_receiver(1, 255) + D,
-           ["R 3", "R 3", "S 3 3 9 0 0 255 0 0 0 0 24 2048", "T 3 0 9999 0 0 0 0 0 0 77 0 2048 65535 0"])
+           ["R 3", "R 3", "S 3 3 9 0 0 255 0 0 0 0 24 2048", "T 3 0 9999 0 0 0 0 0 0 77 0 2048 65535 0 0 0 0"])
     yield ("and goes on where it was", open_sender(3, 32) + load_low(hx("7E 7E")) + next_octets(3) + open_sender(0, 8)
            + next_octets(6) + open_receiver(3, 32) + receive(hx("07 00 00 BC")) + open_receiver(0, 64)
            + receive(hx("1A D8 47 7E")),
            ["D", *sent(hx("07 00 00")), "R 3", *sent(hx("BC 1A D8 47 7E")), "I", "R 3", "P 0 2 7E 7E"])
     yield ("the lengths lent play no part", lend((0, 0, 0, 0)) + open_sender(3, 32) + open_receiver(3, 16) + D
            + open_sender(3, 17) + open_receiver(3, 15) + WIDE_LENGTHS,
-           ["S 3 0 0 0 0 0 0 0 0 0 32 2048", "T 3 0 0 0 0 0 0 0 0 0 16 2048 65535 0", "R 3", "R 3"])
+           ["S 3 0 0 0 0 0 0 0 0 0 32 2048", "T 3 0 0 0 0 0 0 0 0 0 16 2048 65535 0 0 0 0", "R 3", "R 3"])
     yield ("an opening ends what was there", sender(low=(9, 2), high=(6, 0), left=3, zeros=1, line=1, width=24)
            + receiver(work=1, held=7, width=24, **IN_BLOCK) + open_sender(3, 32) + open_receiver(3, 32) + D,
-           ["S 3 0 0 0 0 0 0 0 0 0 32 2048", "T 3 0 0 0 0 0 0 0 0 0 32 2048 65535 65535"])
+           ["S 3 0 0 0 0 0 0 0 0 0 32 2048", "T 3 0 0 0 0 0 0 0 0 0 32 2048 65535 65535 0 0 0"])
     for end in (open_sender, open_receiver):
         yield (f"every width, {end.__name__}", b"".join(end(0, width) for width in range(256)) + end(0, 16),
                ["R 3"] * 254)
@@ -922,7 +982,7 @@ def wrong_widths():
         state = f" {width} 2048"
         yield (f"{width}, fresh", sender(width=width) + load_low(TWO) + load_high(TWO) + next_octets(2)
                + receiver(width=width) + receive(hx("05 31 7E")) + D,
-               ["R 3"] * 7 + ["S 3" + " 0" * 9 + state, "T 3" + " 0" * 9 + state + " 65535 0"])
+               ["R 3"] * 7 + ["S 3" + " 0" * 9 + state, "T 3" + " 0" * 9 + state + " 65535 0 0 0 0"])
     for lengths in (lent(32), lent(16), (2049, 2049, 2050, 2050), (0, 0, 0, 0), (20480,) * 4):
         yield (f"24, areas of {lengths[0]} and {lengths[2]}", lend(lengths) + sender(width=24) + load_low(TWO)
                + load_high(b"") + next_octets(1) + receiver(width=24) + receive(FLAG) + D + show_sender() + show_receiver(),
@@ -934,9 +994,9 @@ def wrong_widths():
            + receiver(width=65296) + receive(hx("05 31 31 31 31 7E")) + D
            + sender(low=(5, 0), width=272) + next_octets(1) + receiver(width=65312) + receive(hx("05 31 31 31 31 7E")) + D
            + sender(width=280) + next_octets(1) + receiver(width=256) + receive(FLAG) + D,
-           ["O 07", "R 14", "S 3 6 0 0 0 6 1 1 0 0 32 2048", "T 3 0 0 0 0 0 0 0 0 0 16 2048 65535 0",
-            "O 06", "R 13", "S 3 5 0 0 0 5 1 1 0 0 16 2048", "T 3 0 0 0 0 0 0 0 0 0 32 2048 65535 65535",
-            "R 3", "R 3", "S 3 0 0 0 0 0 0 0 0 0 24 2048", "T 3 0 0 0 0 0 0 0 0 0 0 2048 65535 0"])
+           ["O 07", "R 14", "S 3 6 0 0 0 6 1 1 0 0 32 2048", "T 3 0 0 0 0 0 0 0 0 0 16 2048 65535 0 0 0 0",
+            "O 06", "R 13", "S 3 5 0 0 0 5 1 1 0 0 16 2048", "T 3 0 0 0 0 0 0 0 0 0 32 2048 65535 65535 0 0 0",
+            "R 3", "R 3", "S 3 0 0 0 0 0 0 0 0 0 24 2048", "T 3 0 0 0 0 0 0 0 0 0 0 2048 65535 0 0 0 0"])
 
 
 def wide_areas():
@@ -1101,11 +1161,12 @@ def wide_delivery():
     idle, holds = "S 3 0 0 0 0 0 0 0 0 0 32 2048", told("3 1 0 2 0 0 0 0 0 0", 32, held=b"A")
     yield ("sent", open_sender(3, 32) + open_receiver(3, 32) + load_low(hx("41 42 43")) + next_octets(2) + D
            + load_high(hx("44 45")) + next_octets(1) + D + next_octets(len(urgent + rest) + 1),
-           ["D", "O 08", "O 41", "S 3 7 1 0 0 6 1 1 0 0 32 2048", "T 3 0 0 0 0 0 0 0 0 0 32 2048 65535 65535",
-            "D", "O 7E", "S 3 7 1 6 0 0 0 0 1 0 32 2048", "T 3 0 0 0 0 0 0 0 0 0 32 2048 65535 65535", *sent(urgent + rest), "I"])
+           ["D", "O 08", "O 41", "S 3 7 1 0 0 6 1 1 0 0 32 2048", "T 3 0 0 0 0 0 0 0 0 0 32 2048 65535 65535 0 0 0",
+            "D", "O 7E", "S 3 7 1 6 0 0 0 0 1 0 32 2048", "T 3 0 0 0 0 0 0 0 0 0 32 2048 65535 65535 0 0 0", *sent(urgent + rest), "I"])
     yield ("received", receive(hx("08 41 7E")) + D + receive(urgent) + D + receive(rest[:-1]) + D + receive(FLAG) + D,
            ["H 1 0", idle, holds, "P 1 2 44 45", idle, holds,
-            idle, "T 3 0 8 0 0 0 2 1 1 0 32 2048 65535 65535", "P 0 3 41 42 43", idle, "T 3 0 0 0 0 0 0 0 0 0 32 2048 65535 65535"])
+            idle, "T 3 0 8 0 0 0 2 1 1 0 32 2048 65535 65535 0 0 0", "P 0 3 41 42 43", idle,
+            "T 3 0 0 0 0 0 0 0 0 0 32 2048 65535 65535 0 0 0"])
     between = hx("D3 02 7E") + urgent + hx("D1 02 7E") + urgent + hx("D1")
     tail = hx("31 32") + fcs(hx("00 00 00 31 32"), 32)
     assert 0 not in tail and FLAG[0] not in tail
@@ -1130,7 +1191,7 @@ def wide_delivery():
     yield ("the longest packet, all but its last octet held", open_receiver(3, 32)
            + receive(whole[:-2] + FLAG + urgent + hx("D1") + last) + D,
            ["H 2051 0", "P 1 2 44 45", packet_line(0, longest), "S 3 0 0 0 0 0 0 0 0 0 32 2048",
-            "T 3 0 0 0 0 0 0 0 0 0 32 2048 65535 65535"])
+            "T 3 0 0 0 0 0 0 0 0 0 32 2048 65535 65535 0 0 0"])
 
 
 def wide_settings():
@@ -1140,7 +1201,7 @@ def wide_settings():
         yield (f"settings {settings:02X}", open_receiver(settings, 32)
                + receive(hx("D7 7E D1 01 7E 05 31 7E D2 7E FF 7E 01 7E")) + D,
                [f"R {14 if zxe else 6}", f"R {8 if pre else 6}", "H 1 0" if pre else "R 11", "R 7", "R 5", "R 13",
-                "S 3 0 0 0 0 0 0 0 0 0 32 2048", f"T {settings} {1 if pre else 0} 0 0 0 0 0 0 0 0 32 2048 65535 65535"])
+                "S 3 0 0 0 0 0 0 0 0 0 32 2048", f"T {settings} {1 if pre else 0} 0 0 0 0 0 0 0 0 32 2048 65535 65535 0 0 0"])
 
 
 WIDTH_TABLE = [
@@ -1180,7 +1241,7 @@ def opened(width, limit):
     return open_sender(3, width, limit) + open_receiver(3, width, limit) + lend(lent(width, limit))
 
 
-def plain_line(data, width):
+def block_line(data, width):
     """A packet without zeros and 7E that fits into one block, as a frame on the line."""
     whole = data + fcs(data, width)
     assert 0 not in whole and FLAG[0] not in whole and 0x7E != len(whole) + 1 <= 207
@@ -1213,7 +1274,7 @@ def limit_examples():
            + show(0, 16380, 9) + D,
            ["R 2", "R 1", "X EE EE EE EE EE EE EE EE EE", "D",
             f"X 41 41 41 41 {fcs(b'A' * LONGEST).hex(' ').upper()} EE EE EE",
-            "S 3 16386 0 0 0 0 0 0 0 0 16 16384", "T 3 0 0 0 0 0 0 0 0 0 32 2047 65535 65535"])
+            "S 3 16386 0 0 0 0 0 0 0 0 16 16384", "T 3 0 0 0 0 0 0 0 0 0 32 2047 65535 65535 0 0 0"])
     yield ("and its first octets and its last are sent", lend((16386, 16386, 0, 0)) + next_octets(3)
            + sender(low=(16386, 16353), line=1, limit=LONGEST) + next_octets(36),
            ["O D0", "O 41", "O 41", "O 22", *["O 41"] * 31, *sent(fcs(b"A" * LONGEST)), "O 7E", "I"])
@@ -1237,27 +1298,27 @@ def limit_openings():
     for end in ENDS:
         yield (f"{end.__name__}, wrong widths, good limits", b"".join(
             end(0, width, limit) for width in (0, 24, 255) for limit in (2, 3, 2048, 16384)), ", ".join(["R 3"] * 12))
-    yield ("none of these has left its mark", D, ["S 1 0 0 0 0 0 0 0 0 0 32 16384", "T 2 0 0 0 0 0 0 0 0 0 32 16384 65535 65535"])
-    yield ("the low octet stands first", b"o" + hx("03 10 02 00") + b"O" + hx("03 20 00 02") + D + b"o" + hx("03 10 01 40")
-           + b"O" + hx("03 20 40 01") + b"o" + hx("03 18 02 01") + D,
-           ["S 3 0 0 0 0 0 0 0 0 0 16 2", "T 3 0 0 0 0 0 0 0 0 0 32 512 65535 65535", "R 23", "R 3",
-            "S 3 0 0 0 0 0 0 0 0 0 16 2", "T 3 0 0 0 0 0 0 0 0 0 32 320 65535 65535"])
+    yield ("none of these has left its mark", D, ["S 1 0 0 0 0 0 0 0 0 0 32 16384", "T 2 0 0 0 0 0 0 0 0 0 32 16384 65535 65535 0 0 0"])
+    yield ("the low octet stands first", b"o" + hx("03 10 02 00") + b"O" + hx("03 20 00 02 00 00 00 00 00") + D
+           + b"o" + hx("03 10 01 40") + b"O" + hx("03 20 40 01 00 00 00 00 00") + b"o" + hx("03 18 02 01") + D,
+           ["S 3 0 0 0 0 0 0 0 0 0 16 2", "T 3 0 0 0 0 0 0 0 0 0 32 512 65535 65535 0 0 0", "R 23", "R 3",
+            "S 3 0 0 0 0 0 0 0 0 0 16 2", "T 3 0 0 0 0 0 0 0 0 0 32 320 65535 65535 0 0 0"])
     yield ("a refused opening leaves the end as it was", sender(low=(9, 2), high=(6, 0), left=3, zeros=1, line=1, width=32, limit=9)
            + receiver(settings=2, work=1, held=7, limit=20, **IN_BLOCK) + open_sender(0, 16, 1) + open_receiver(1, 32, 16385)
            + open_sender(0, 24, 5) + open_receiver(1, 0, 5) + D,
            ["R 23", "R 23", "R 3", "R 3", "S 3 9 2 6 0 3 1 1 0 0 32 9", told("2 1 1 8 2 1 2 1 0 0", 16, 20)])
     yield ("a refused opening leaves a state out of bounds too", sender(low=(3, 9), left=255, width=24, limit=65535)
            + receiver(decoded=9999, refusal=77, width=0, limit=1) + open_sender(0, 16, 0) + open_receiver(1, 16, 65535) + D,
-           ["R 23", "R 23", "S 3 3 9 0 0 255 0 0 0 0 24 65535", "T 3 0 9999 0 0 0 0 0 0 77 0 1 65535 0"])
+           ["R 23", "R 23", "S 3 3 9 0 0 255 0 0 0 0 24 65535", "T 3 0 9999 0 0 0 0 0 0 77 0 1 65535 0 0 0 0"])
     yield ("and goes on where it was", opened(16, 2) + load_low(TWO) + next_octets(2) + open_sender(0, 16, 1) + next_octets(5)
            + receive(hx("05 41 42")) + open_receiver(0, 16, 16385) + receive(hx("EF 31 7E")),
            ["D", *sent(hx("05 41")), "R 23", *sent(hx("42 EF 31 7E")), "I", "R 23", "P 0 2 41 42"])
     yield ("the lengths lent play no part", lend((0, 0, 0, 0)) + open_sender(3, 32, 16384) + open_receiver(3, 16, 2) + D
            + open_sender(3, 32, 16385) + open_receiver(3, 15, 1),
-           ["S 3 0 0 0 0 0 0 0 0 0 32 16384", "T 3 0 0 0 0 0 0 0 0 0 16 2 65535 0", "R 23", "R 23"])
+           ["S 3 0 0 0 0 0 0 0 0 0 32 16384", "T 3 0 0 0 0 0 0 0 0 0 16 2 65535 0 0 0 0", "R 23", "R 23"])
     yield ("an opening ends what was there, and its limit", sender(low=(9, 2), high=(6, 0), left=3, zeros=1, line=1, limit=1)
            + receiver(work=1, held=7, limit=16385, **IN_BLOCK) + open_sender(3, 16, 7) + open_receiver(3, 32, 8) + D,
-           ["S 3 0 0 0 0 0 0 0 0 0 16 7", "T 3 0 0 0 0 0 0 0 0 0 32 8 65535 65535"])
+           ["S 3 0 0 0 0 0 0 0 0 0 16 7", "T 3 0 0 0 0 0 0 0 0 0 32 8 65535 65535 0 0 0"])
 
 
 def out_of_range():
@@ -1403,7 +1464,7 @@ def too_much():
                "R 14, R 10")
     yield ("limit 2: no more than its octets are written", opened(16, 2) + fill(2, 0, hx("EE") * 9)
            + receive(hx("D0 31 32 33 34 35 36 37 38")) + show(2, 0, 8) + D + receive(FLAG),
-           ["X 31 32 33 34 35 EE EE EE", "S 3 0 0 0 0 0 0 0 0 0 16 2", "T 3 0 5 0 0 0 0 1 0 10 16 2 65535 0", "R 10"])
+           ["X 31 32 33 34 35 EE EE EE", "S 3 0 0 0 0 0 0 0 0 0 16 2", "T 3 0 5 0 0 0 0 1 0 10 16 2 65535 0 0 0 0", "R 10"])
     for width, limit in ((16, 204), (32, 202)):
         full = hx("D0") + b"1" * 207 + FLAG
         yield (f"12 from limit {limit} on, {width} bits; below it 10", opened(width, limit) + receive(full)
@@ -1426,13 +1487,13 @@ def longest_frames():
     tables, too."""
     for limit, data, more in ((2, TWO, THREE), (3, THREE, FOUR)):
         for width in WIDTHS:
-            line = plain_line(data, width)
+            line = block_line(data, width)
             yield (f"limit {limit}, {width} bits: sent, and received in either area", opened(width, limit) + load_low(data)
                    + next_octets(len(line) + 1) + receive(line) + receive(hx("05 31 7E")) + receive(line),
                    ["D", *sent(line), "I", packet_line(0, data), "H 1 0", packet_line(1, data)])
-            yield (f"limit {limit}, {width} bits: one octet more", receive(plain_line(more, width)) + receive(line),
+            yield (f"limit {limit}, {width} bits: one octet more", receive(block_line(more, width)) + receive(line),
                    f"R 10, {packet_line(1, data)}")
-            yield (f"limit {limit}, {width} bits: a packet of 2", receive(plain_line(TWO, width)), packet_line(1, TWO))
+            yield (f"limit {limit}, {width} bits: a packet of 2", receive(block_line(TWO, width)), packet_line(1, TWO))
     # 1,092 runs have 16,380 zeros, 136 have 2,040.
     zeros = {n: hx("DF") * (n // 15) + bytes((0xD0 + n % 15,)) for n in (2048, 2049, LONGEST, LONGEST + 1)}
     check = {(n, width): fcs(bytes(n), width) for n in zeros for width in WIDTHS}
@@ -1448,11 +1509,11 @@ def longest_frames():
            packet_line(0, bytes(LONGEST)))
     yield ("limit 16,384, 32 bits: zeros, one octet more than can be loaded", opened(32, LONGEST)
            + spotted(1) + fill(1, LONGEST - 2, hx("EE") * 9) + load_high(bytes(LONGEST + 1)) + show(1, LONGEST - 2, 9) + D,
-           ["R 1", "X" + " EE" * 9, "S 3 0 0 0 0 0 0 0 0 0 32 16384", "T 3 0 0 0 0 0 0 0 0 0 32 16384 65535 65535"])
+           ["R 1", "X" + " EE" * 9, "S 3 0 0 0 0 0 0 0 0 0 32 16384", "T 3 0 0 0 0 0 0 0 0 0 32 16384 65535 65535 0 0 0"])
     yield ("limit 16,384, 32 bits: zeros, sent", load_high(bytes(LONGEST)) + show(1, LONGEST - 2, 9) + D
            + next_octets(len(line[LONGEST, 32]) + 1),
            ["D", f"X 00 00 {check[LONGEST, 32].hex(' ').upper()} EE EE EE", "S 3 0 0 16388 0 0 0 0 0 0 32 16384",
-            "T 3 0 0 0 0 0 0 0 0 0 32 16384 65535 65535", *sent(line[LONGEST, 32]), "I"])
+            "T 3 0 0 0 0 0 0 0 0 0 32 16384 65535 65535 0 0 0", *sent(line[LONGEST, 32]), "I"])
     yield ("limit 16,384, 32 bits: zeros received, in the second area", spotted(3) + receive(hx("05 31 7E"))
            + receive(line[LONGEST, 32]) + D,
            ["H 1 0", packet_line(1, bytes(LONGEST)),
@@ -1462,7 +1523,7 @@ def longest_frames():
 
 def limit_stays():
     """Both ends, limit 3. 41 42 43 (FCS 2F 9F) is broken off after 41 by 44 45 (FCS E8 3B), and resumed; then refusals."""
-    idle, fresh = "S 3 0 0 0 0 0 0 0 0 0 16 3", "T 3 0 0 0 0 0 0 0 0 0 16 3 65535 0"
+    idle, fresh = "S 3 0 0 0 0 0 0 0 0 0 16 3", "T 3 0 0 0 0 0 0 0 0 0 16 3 65535 0 0 0 0"
     holds = told("3 1 0 2 0 0 0 0 0 0", 16, 3, b"A")
     yield ("sent", opened(16, 3) + load_low(THREE) + D + next_octets(2) + D + load_high(hx("44 45")) + next_octets(1) + D
            + next_octets(6) + D + next_octets(8) + D,
@@ -1471,8 +1532,8 @@ def limit_stays():
             *sent(hx("D1 05 42 43 2F 9F 7E")), "I", idle, fresh])
     yield ("received", receive(hx("06 41")) + D + receive(FLAG) + D + receive(hx("05 44 45 E8 3B 7E")) + D
            + receive(hx("D1 05 42 43 2F 9F")) + D + receive(FLAG) + D,
-           [idle, "T 3 0 1 0 4 1 2 1 0 0 16 3 65535 0", "H 1 0", idle, holds,
-            "P 1 2 44 45", idle, holds, idle, "T 3 0 6 0 0 0 2 1 1 0 16 3 65535 0",
+           [idle, "T 3 0 1 0 4 1 2 1 0 0 16 3 65535 0 0 0 0", "H 1 0", idle, holds,
+            "P 1 2 44 45", idle, holds, idle, "T 3 0 6 0 0 0 2 1 1 0 16 3 65535 0 0 0 0",
             "P 0 3 41 42 43", idle, fresh])
     for line, answer in (("FF", "R 5"), ("D1 01", "R 8"), ("D2", "R 7"), ("D7", "R 10"), ("D3", "R 13"), ("D6", "R 14")):
         yield f"{line} refused", receive(hx(line) + FLAG) + D, [answer, idle, fresh]
@@ -1482,14 +1543,14 @@ def limit_stays():
            + receive(hx("D1 01 7E")) + D + receive(hx("05 41 42 EF 7E") + hx("05 44 45 E8 3B 7E") + hx("D1 02 31 7E")) + D,
            ["H 5 0", "S 3 0 0 0 0 0 0 0 0 0 16 2", told("3 1 0 6 0 0 0 0 0 0", 16, 2, hx("41 42 EF 31 55")),
             "R 10", "S 3 0 0 0 0 0 0 0 0 0 16 2",
-            "T 3 0 0 0 0 0 0 0 0 0 16 2 65535 0", "H 3 0", "P 1 2 44 45", "P 0 2 41 42", "S 3 0 0 0 0 0 0 0 0 0 16 2",
-            "T 3 0 0 0 0 0 0 0 0 0 16 2 65535 0"])
+            "T 3 0 0 0 0 0 0 0 0 0 16 2 65535 0 0 0 0", "H 3 0", "P 1 2 44 45", "P 0 2 41 42", "S 3 0 0 0 0 0 0 0 0 0 16 2",
+            "T 3 0 0 0 0 0 0 0 0 0 16 2 65535 0 0 0 0"])
 
 
 def different_limits():
     """A sender of one limit, a receiver of another; what is sent is the same whatever the limit."""
     for width in WIDTHS:
-        ten, eleven = plain_line(b"A" * 10, width), plain_line(b"A" * 11, width)
+        ten, eleven = block_line(b"A" * 10, width), block_line(b"A" * 11, width)
         for sends, takes in ((20, 10), (11, 10), (11, 11), (10, 20), (11, 16384)):
             lengths = (*lent(width, sends)[:2], *lent(width, takes)[2:])
             last = (["R 1"], "") if sends < 11 else (["D", *sent(eleven)], eleven)
@@ -1531,9 +1592,9 @@ OTHER_BEGUN = hx("06 58 7E")
 RESTART = hx("FF 03 C0 21 7E")
 
 
-def state(numbers, width=16, limit=2048, held=None):
+def state(numbers, width=16, limit=2048, held=None, mode=0, control=0):
     """The lines of `d`: an untouched sender, and the receiver as told."""
-    return [FRESH[0], told(numbers, width, limit, held)]
+    return [FRESH[0], told(numbers, width, limit, held, mode, control)]
 
 
 def restart_examples():
@@ -1591,7 +1652,7 @@ def ff_elsewhere():
            [*state("3 0 2 6 0 0 2 1 0 0"), "R 13", *stays])
     yield ("in the FCS", receiver(held=5) + receive(hx("05 00 00 6A FF 7E")) + D, ["P 0 2 7E 7E", *stays])
     for data in (hx("FF FF"), hx("FF 03 C0 21")):
-        yield (f"in a packet, {data.hex(' ')}", receiver(held=5) + receive(plain_line(data, 16)) + D, [packet_line(0, data), *stays])
+        yield (f"in a packet, {data.hex(' ')}", receiver(held=5) + receive(block_line(data, 16)) + D, [packet_line(0, data), *stays])
     yield ("behind D1", holding(5) + receive(hx("D1")) + D + receive(hx("FF")) + D + receive(FLAG) + D,
            [*state("3 1 5 0 0 0 0 1 1 0"), *state("3 1 5 0 0 0 0 1 1 7"), "R 7", *gone])
     yield ("behind D1 and a block", holding(5) + receive(hx("D1 01 FF")) + D + receive(FLAG) + D,
@@ -1811,7 +1872,7 @@ def restarted_peer():
     """Both ends. The sender is opened anew while its low packet is suspended; what it sends after that is whole, or its
     first fragment is lost."""
     for width, limit in ((16, 2048), (32, 3), (32, 16384)):
-        (begun, rest), urgent = cut_frame(THREE + fcs(THREE, width), 1), plain_line(hx("44 45"), width)
+        (begun, rest), urgent = cut_frame(THREE + fcs(THREE, width), 1), block_line(hx("44 45"), width)
         load_both = load_low(THREE) + next_octets(2) + load_high(hx("44 45"))
         yield (f"sent, limit {limit}, {width} bits", opened(width, limit) + load_both + next_octets(1) + open_sender(3, width, limit)
                + load_both + next_octets(1 + len(urgent + rest) + 1),
@@ -1820,7 +1881,7 @@ def restarted_peer():
                "H 1 0, R 5, H 1 0, P 0 2 44 45, P 1 3 41 42 43")
         yield (f"a fragment lost, limit {limit}, {width} bits", receive(begun + RESTART + urgent + rest),
                "H 1 0, R 5, P 0 2 44 45, R 8")
-        yield f"a packet whole, limit {limit}, {width} bits", receive(plain_line(THREE, width)), "P 0 3 41 42 43"
+        yield f"a packet whole, limit {limit}, {width} bits", receive(block_line(THREE, width)), "P 0 3 41 42 43"
 
 
 RESTART_TABLE = [
@@ -1875,21 +1936,21 @@ def area_examples():
     for width, holds, fresh in ((16, "16 2048 19795 0", "16 2048 65535 0"), (32, "32 2048 47922 45228", "32 2048 65535 65535")):
         assert halves(REGISTER[width]) == tuple(map(int, holds.split()[2:])) and register_over(HELD, width) == REGISTER[width]
         yield (f"{width} bits: 05 31 32", area_opened(width) + receive(BROKEN) + D,
-               ["H 2 0", FRESH[0], f"T 3 1 0 3 0 0 0 0 0 0 {holds}"])
+               ["H 2 0", FRESH[0], f"T 3 1 0 3 0 0 0 0 0 0 {holds} 0 0 0"])
         yield (f"{width} bits: octet 1 changed to 33, then D1", fill(2, 1, hx("33")) + receive(hx("D1")) + D,
-               [FRESH[0], f"T 3 1 0 0 0 0 0 1 1 21 {fresh}"])
+               [FRESH[0], f"T 3 1 0 0 0 0 0 1 1 21 {fresh} 0 0 0"])
         yield f"{width} bits: then 03 37 38", receive(hx("03 37 38 7E")), "R 21"
         yield (f"{width} bits: octet 2 changed, then D1 01", area_opened(width) + receive(BROKEN) + fill(2, 2, hx("33"))
                + receive(hx("D1 01 7E")), "H 2 0, R 13")
         yield (f"{width} bits: a packet delivered in between", area_opened(width) + receive(BROKEN + ZEROS[width]) + D,
-               ["H 2 0", "P 1 2 00 00", FRESH[0], f"T 3 1 0 3 0 0 0 0 0 0 {holds}"])
+               ["H 2 0", "P 1 2 00 00", FRESH[0], f"T 3 1 0 3 0 0 0 0 0 0 {holds} 0 0 0"])
     yield "areas for 16 bits and 2,048", DEFAULT_LENGTHS, []
     yield "no octets held, register 1234: D1", receiver(held=0, register=0x1234) + receive(hx("D1 7E")), "R 21"
     yield ("nothing held, register 1234: any call", receiver(register=0x1234) + receive(hx("7E 31 D1 FF 05")),
            "R 3, R 3, R 3, R 3, R 3")
     yield "1 held, register 10000", receiver(held=1, register=0x10000) + receive(FLAG), "R 3"
     yield ("settings 01, 1 held: D1", receiver(settings=1, held=1) + receive(hx("D1 7E")) + D,
-           ["R 6", FRESH[0], "T 1 0 0 0 0 0 0 0 0 0 16 2048 65535 0"])
+           ["R 6", FRESH[0], "T 1 0 0 0 0 0 0 0 0 0 16 2048 65535 0 0 0 0"])
 
 
 def registers_held():
@@ -2005,7 +2066,7 @@ def leaves_it():
                [*(line for _, numbers in inside for line in state(numbers, width, held=HELD)), "R 7", *kept(0, HELD, width)])
         yield (f"{width} bits: a register that is not of what is held stays too", receiver(held=HELD, width=width, register=0x1234)
                + receive(hx("D2 7E")) + receive(ZEROS[width]) + D + receive(hx("D1 7E")),
-               ["R 7", "P 0 2 00 00", FRESH[0], f"T 3 0 0 3 0 0 0 0 0 0 {width} 2048 4660 0", "R 21"])
+               ["R 7", "P 0 2 00 00", FRESH[0], f"T 3 0 0 3 0 0 0 0 0 0 {width} 2048 4660 0 0 0 0", "R 21"])
 
 
 def changes():
@@ -2114,7 +2175,7 @@ def before_21():
             line = f"{len(octets) + 1} 0 0 0 1 1 6 16 2048 {wrong} 0"
             yield (f"6, settings {settings:02X}, {held} held, register {wrong:04X}", receiver(
                 settings=settings, held=held, register=register) + receive(hx("D1")) + D + receive(hx("31 FF")) + D + receive(FLAG)
-                + D, [*[FRESH[0], f"T {settings} 0 0 {line}"] * 2, "R 6", *gone(0, settings=settings)])
+                + D, [*[FRESH[0], f"T {settings} 0 0 {line} 0 0 0"] * 2, "R 6", *gone(0, settings=settings)])
     for settings in (2, 3, 0xFE, 0xFF):
         yield (f"8, settings {settings:02X}", open_receiver(settings) + receive(hx("D1")) + D + receive(FLAG) + D,
                [*state(f"{settings} 0 0 0 0 0 0 1 1 8"), "R 8", *gone(0, settings=settings)])
@@ -2122,7 +2183,7 @@ def before_21():
                + receive(FLAG) + D, [*changed(0, settings=settings), "R 21", *gone(0, settings=settings)])
     yield ("8 after FF, whatever was there", receiver(held=2, register=0x1234) + receive(hx("FF 7E D1 7E")), "R 5, R 8")
     yield ("not a first octet: 7", receiver(held=2, register=0x1234) + receive(hx("01 D1 7E")) + D,
-           ["R 7", FRESH[0], "T 3 0 0 3 0 0 0 0 0 0 16 2048 4660 0"])
+           ["R 7", FRESH[0], "T 3 0 0 3 0 0 0 0 0 0 16 2048 4660 0 0 0 0"])
     yield ("not a first octet: data", receiver(held=2, register=0x1234) + receive(hx("05 D1 7E")) + D, ["H 1 1", *kept(1, hx("D1"))])
 
 
@@ -2158,7 +2219,8 @@ def register_bounds():
            + receiver(width=32, held=0, register=0xFFFF) + receive(hx("D1 7E")), "R 3, R 21")
     yield ("the halves stand low half first", hand_receiver((3, 0, 0, 2, *[0] * 6, 32, 2048, 0x1234, 0x5678)) + D
            + receive(hx("7E D2 7E")) + D,
-           [FRESH[0], "T 3 0 0 2 0 0 0 0 0 0 32 2048 4660 22136", "R 7", FRESH[0], "T 3 0 0 2 0 0 0 0 0 0 32 2048 4660 22136"])
+           [FRESH[0], "T 3 0 0 2 0 0 0 0 0 0 32 2048 4660 22136 0 0 0", "R 7", FRESH[0],
+            "T 3 0 0 2 0 0 0 0 0 0 32 2048 4660 22136 0 0 0"])
 
 
 def remembered_21():
@@ -2195,7 +2257,7 @@ def remembered_21():
 def area_orders():
     """3 by width or limit, 2, 3 by the rest; a refused call leaves what is held and its register, and looks at no octet."""
     stays = kept(0, HELD)
-    wrong = [FRESH[0], "T 3 0 0 0 0 0 0 0 0 0 16 2048 4660 0"]
+    wrong = [FRESH[0], "T 3 0 0 0 0 0 0 0 0 0 16 2048 4660 0 0 0 0"]
     yield "areas for 16 bits and 2,048", DEFAULT_LENGTHS, []
     for name, lengths in (("first one short", SHORT_FIRST), ("second one short", SHORT_SECOND), ("nothing lent", lend((0,) * 4))):
         yield (f"{name}: D1, held octets unchanged and changed", lengths + holding(HELD) + receive(hx("D1")) + D + fill(3, 0, b"0")
@@ -2210,10 +2272,11 @@ def area_orders():
            ["R 3", "R 3", "R 3", *state("3 0 0 3 208 0 2 1 0 0", held=HELD)])
     yield ("3 by the register leaves it", receiver(register=0x1234) + receive(hx("D1 FF 05 7E")) + D, ["R 3"] * 4 + wrong)
     yield ("3 by the register with something held leaves both", receiver(held=HELD, register=0x10000) + receive(hx("D1 FF 7E")) + D,
-           ["R 3", "R 3", "R 3", FRESH[0], "T 3 0 0 3 0 0 0 0 0 0 16 2048 0 1"])
+           ["R 3", "R 3", "R 3", FRESH[0], "T 3 0 0 3 0 0 0 0 0 0 16 2048 0 1 0 0 0"])
     yield ("3 by width or limit leaves it, whatever it is", receiver(held=HELD, register=0x12345678, width=24) + receive(hx("D1"))
            + D + receiver(register=0x12345678, limit=16385) + receive(hx("D1")) + D,
-           ["R 3", FRESH[0], "T 3 0 0 3 0 0 0 0 0 0 24 2048 22136 4660", "R 3", FRESH[0], "T 3 0 0 0 0 0 0 0 0 0 16 16385 22136 4660"])
+           ["R 3", FRESH[0], "T 3 0 0 3 0 0 0 0 0 0 24 2048 22136 4660 0 0 0", "R 3", FRESH[0],
+            "T 3 0 0 0 0 0 0 0 0 0 16 16385 22136 4660 0 0 0"])
     yield ("a refused opening leaves it", holding(HELD) + open_receiver(3, 24) + open_receiver(3, 16, 1) + D + receive(hx("D1 7E")),
            ["R 3", "R 23", *stays, "R 9"])
     yield ("no calls leave it", receiver(register=0x1234) + receive(b"") + D, wrong)
@@ -2253,7 +2316,7 @@ def area_limits():
 def changed_behind_back():
     """Both ends. A host writes to an area while a packet is suspended."""
     for width, limit in ((16, 2048), (32, 3), (32, 16384)):
-        (begun, rest), urgent = cut_frame(THREE + fcs(THREE, width), 1), plain_line(hx("44 45"), width)
+        (begun, rest), urgent = cut_frame(THREE + fcs(THREE, width), 1), block_line(hx("44 45"), width)
         name = f"limit {limit}, {width} bits"
         yield (f"{name}: sent", opened(width, limit) + load_low(THREE) + next_octets(2) + load_high(hx("44 45"))
                + next_octets(1 + len(urgent + rest) + 1), ["D", *sent(begun[:2]), "D", *sent(FLAG + urgent + rest), "I"])
@@ -2286,6 +2349,759 @@ AREAS_TABLE = [
 ]
 
 
+# ------------------------------------------------------------------------------------------------
+# The table of the script plain: document 02, slip 5
+# ------------------------------------------------------------------------------------------------
+
+OFF, COBS, PLAIN, ESCAPED = range(4)
+CONTROLS, ALL, XON = bytes(range(0x20)), 0xFFFFFFFF, 1 << 0x11
+FORBIDDEN = (*range(0x20, 0x40), 0x5E)  # what no sending map may mark
+ALLOWED = bytes(octet for octet in range(256) if octet not in FORBIDDEN)
+LCP, LCP_LINE = hx("FF 03 C0 21 01 01 00 04"), hx("FF 03 C0 21 01 01 00 04 D1 B5 7E")
+FRESH_NUMBERS = "3 0 0 0 0 0 0 0 0 0"
+
+
+def ppp_line(data, width=16, marked=b""):
+    """A packet as a frame of plain PPP, with its flag."""
+    return stuffed(data + fcs(data, width), marked) + FLAG
+
+
+def reads_plain(width=16, limit=2048, control=0, **numbers):
+    """A receiver that reads plain, handed in, with areas exactly long enough."""
+    return lend(lent(width, limit)) + receiver(width=width, limit=limit, control=control, **{"mode": PLAIN, **numbers})
+
+
+def plain_opened(width=16, limit=2048, control=0):
+    """A receiver opened with plain reading on, and areas exactly long enough."""
+    return lend(lent(width, limit)) + open_receiver(3, width, limit, 1, control)
+
+
+def written(data, width=16, marked=b""):
+    """The line of a packet that the plain sender writes."""
+    line = ppp_line(data, width, marked)
+    return f"W {len(line)} {line.hex(' ').upper()}"
+
+
+def plain_examples():
+    """The table of examples that goes with the slip's readings, row by row; settings 03, 16 bits, packets to 2,048."""
+    lcp = "8 FF 03 C0 21 01 01 00 04"
+    yield "an LCP packet sent, empty maps", open_pair(3) + send_plain(LCP), ["W 11 FF 03 C0 21 01 01 00 04 D1 B5 7E"]
+    yield ("the same, marks 00 to 1F", open_pair(3, sending=marks(CONTROLS)) + send_plain(LCP),
+           ["W 16 FF 7D 23 C0 21 7D 21 7D 21 7D 20 7D 24 D1 B5 7E"])
+    yield "the first line, reading off", open_receiver(3) + receive(LCP_LINE), "R 5"
+    yield "the first line, reading on", open_receiver(3, plain=1) + receive(LCP_LINE), f"P 0 {lcp}"
+    yield "the first line, map FFFFFFFF", open_receiver(3, plain=1, control=ALL) + receive(LCP_LINE), "R 14"
+    for octets, control, answers in (
+            ("FF 7E 7D 7E", 0, "R 13, R 18"), ("FF 7D 7E", 0, "R 18"), ("FF 7E 11 11 7E", XON, "R 13"),
+            ("FF 7E 11 11 7E", 0, "R 13, R 13"), ("FF 7E 7D 11 7E", XON, "R 13, R 18"),
+            ("FF 7E 7D 11 5E 41 1E 36 7E", XON, "R 13, P 0 2 7E 41")):
+        yield (f"{octets}, map {control:08X}", open_receiver(3, plain=1, control=control) + receive(hx(octets)), answers)
+    yield ("5D marked: 5D 7D 7E 5E sent", open_pair(3, sending=marks(hx("5D"))) + send_plain(hx("5D 7D 7E 5E")),
+           ["W 10 7D 7D 7D 5D 7D 5E 5E CF 0C 7E"])
+    yield ("and received", receiver(mode=PLAIN) + receive(hx("7D 7D 7D 5D 7D 5E 5E CF 0C 7E")), "P 0 4 5D 7D 7E 5E")
+    for length, answer in ((2048, "P 0 2048" + " 41" * 2048), (2049, "R 10")):
+        yield f"{length} octets of 41", receiver(mode=PLAIN) + receive(ppp_line(b"A" * length)), answer
+    for more, answer in (("7D 7E", "R 18"), ("7D 41 7E", "R 10"), ("41 7D 7E", "R 10")):
+        yield f"2,050 octets, then {more}", receiver(mode=PLAIN) + receive(b"A" * 2050 + hx(more)), answer
+    yield ("05 31, FF 03", open_receiver(3, plain=1) + receive(hx("05 31 7E FF 03 7E")) + D,
+           ["H 1 0", "R 13", *state("3 1 0 0 0 0 0 0 0 0", mode=PLAIN)])
+    yield ("an FF frame, then a COBS frame of 31 to 39", open_receiver(3, plain=1)
+           + receive(LCP_LINE + hx("0C") + NINE + hx("6E 90 7E")),
+           f"P 0 {lcp}, R 14")
+    for name, given, answers in (
+            ("24, 1", dict(width=24, limit=1), "R 23"), ("24", dict(width=24), "R 3"), ("a mark lacks", dict(control=1), "R 19"),
+            ("5E", dict(sending=marks(hx("5E"))), "R 19"), ("20", dict(sending=marks(hx("20"))), "R 19"),
+            ("3F", dict(sending=marks(hx("3F"))), "R 19"), ("40, 5D, FF", dict(sending=marks(hx("40 5D FF"))), "")):
+        yield f"a pair: {name}", open_pair(3, **given), answers
+    yield ("41 with an area of 3 and of 4, 41 42 with one of 4 and of 5", b"".join(
+        lend_out(area) + send_plain(data) for data, area in ((ONE, 3), (ONE, 4), (TWO, 4), (TWO, 5))) + lend_out(2051),
+        "R 2, R 1, R 2, W 5 41 42 EF 31 7E")
+
+
+def plain_start():
+    """Before any opening: plain reading off, no map; the plain sender has 16 bits, 2,048 and the marks 7D and 7E."""
+    yield "the receiver", D, FRESH
+    yield "the plain sender", send_plain(hx("7D 7E")) + send_plain(hx("00 1F")), [written(hx("7D 7E")), written(hx("00 1F"))]
+    yield ("2,051 octets of out are lent", send_plain(b"A" * 2048) + send_plain(b"A" * 2047 + FLAG),
+           [written(b"A" * 2048), "R 2"])
+    yield "and 2,048 is its limit", lend_out(40960) + send_plain(b"A" * 2049) + lend_out(2051), "R 1"
+
+
+def plain_openings():
+    """The receiver, opened by itself: on or off, and the map; no 19, since there is no sending map."""
+    yield "areas for 16 bits and 2,048", DEFAULT_LENGTHS, []
+    for octet, control in ((0, 0), (0, 1), (0, ALL), (1, 0), (1, 1), (1, ALL), (2, 0x80000000), (3, 0x12345678), (128, XON),
+                           (255, 0xFFFE)):
+        yield (f"octet {octet}, map {control:08X}", open_receiver(3, 16, 2048, octet, control) + D,
+               state(FRESH_NUMBERS, mode=COBS if octet else OFF, control=control if octet else 0))
+    yield ("each bit of the map", b"".join(open_receiver(3, plain=1, control=1 << bit) + D for bit in range(32)),
+           [line for bit in range(32) for line in state(FRESH_NUMBERS, mode=COBS, control=1 << bit)])
+    for name, before, numbers, mode in (
+            ("in a frame", dict(decoded=5, frame=1), "3 0 5 0 0 0 0 1 0 0", PLAIN),
+            ("behind an escape", dict(decoded=5, frame=1, mode=ESCAPED), "3 0 5 0 0 0 0 1 0 0", ESCAPED),
+            ("out of a frame, with something held", dict(held=2, work=1), "3 1 0 3 0 0 0 0 0 0", PLAIN)):
+        for answer, given in (("R 23", (24, 1)), ("R 23", (16, 16385)), ("R 3", (24, 2))):
+            yield (f"{name}: {answer} leaves it, {given[0]}, {given[1]}", reads_plain(control=XON, **before)
+                   + open_receiver(0, *given, 1, ALL)
+                   + open_receiver(0, *given) + D, [answer, answer, *state(numbers, mode=mode, control=XON)])
+        for octet in (0, 1):
+            yield (f"{name}: opened anew, octet {octet}", reads_plain(control=XON, **before)
+                   + open_receiver(3, plain=octet, control=ALL)
+                   + D + receive(hx("E0 03 47 0F 7E")),
+                   [*state(FRESH_NUMBERS, mode=octet, control=ALL * octet), "P 0 2 00 00"])
+    yield ("the opening looks at width and limit alone", open_receiver(3, 32, 16384, 1, ALL) + D,
+           state(FRESH_NUMBERS, 32, 16384, mode=COBS, control=ALL))
+
+
+def pair_openings():
+    """19: a map for sending that marks what it must not, or lacks a mark of the receiving one. Each octet and each bit."""
+    yield "areas for 16 bits and 2,048", DEFAULT_LENGTHS + open_pair(3), []
+    commands, answers, last = b"", [], b""
+    for octet in range(256):
+        commands += open_pair(3, sending=marks((octet,))) + send_plain(bytes((octet, 0x41)))
+        refused = octet in FORBIDDEN
+        last = last if refused else bytes((octet,))
+        answers += ["R 19"] * refused + [written(bytes((octet, 0x41)), marked=last)]
+    yield "each octet marked alone", commands, ", ".join(answers)
+    for control, name in ((0, "empty"), (ALL, "full"), (XON, "11")):
+        commands, answers = b"", []
+        for bit in range(32):
+            lacks, alone = CONTROLS[:bit] + CONTROLS[bit + 1:], bytes((bit,))
+            commands += open_pair(3, control=control, sending=marks(lacks)) + open_pair(3, control=control, sending=marks(alone))
+            wanted = [octet for octet in CONTROLS if control >> octet & 1]
+            answers += ["R 19"] * (bit in wanted) + ["R 19"] * (not set(wanted) <= {bit})
+        yield f"receiving map {name}: all marked but one, and one alone", commands, ", ".join(answers)
+    yield ("receiving map of one bit: its mark, and each of four others", b"".join(
+        open_pair(3, control=1 << bit, sending=marks((bit ^ other,))) for bit in range(32) for other in (0, 1, 4, 8, 16)),
+        ", ".join(["R 19"] * 128))
+    yield ("7D and 7E need not be marked, and may be", b"".join(
+        open_pair(3, sending=marks(marked)) + send_plain(hx("7D 7E")) for marked in (b"", hx("7D"), hx("7E"), hx("7D 7E"))),
+        ", ".join([written(hx("7D 7E"))] * 4))
+    yield ("all that may be marked, and one mark more", open_pair(3, control=ALL, sending=marks(ALLOWED)) + b"".join(
+        open_pair(3, control=ALL, sending=marks(ALLOWED + bytes((octet,)))) for octet in FORBIDDEN)
+        + open_pair(3, sending=marks(range(256))), ", ".join(["R 19"] * 34))
+    yield ("the map's octets: bit 0 of the first is 00, bit 7 of the last FF", open_pair(3, sending=hx("01" + "00" * 30 + "80"))
+           + send_plain(hx("00 01 FE FF 07 80")), [written(hx("00 01 FE FF 07 80"), marked=hx("00 FF"))])
+    yield ("what is opened", b"".join(open_pair(settings, width, limit, control, marks(CONTROLS)) + D
+                                      for settings, width, limit, control in (
+        (3, 16, 2048, 0), (0, 32, 2, ALL), (255, 32, 16384, 0x12345678))),
+        [*state(FRESH_NUMBERS, mode=COBS), *state("0 0 0 0 0 0 0 0 0 0", 32, 2, mode=COBS, control=ALL),
+         *state("255 0 0 0 0 0 0 0 0 0", 32, 16384, mode=COBS, control=0x12345678)])
+    yield ("the lengths lent play no part", lend((0,) * 4) + lend_out(0) + open_pair(3, 32, 16384) + D + lend_out(2051)
+           + DEFAULT_LENGTHS,
+           state(FRESH_NUMBERS, 32, 16384, mode=COBS))
+
+
+def pair_orders():
+    """23, 3, 19; a refused opening leaves plain sender and receiver as they were."""
+    bad = marks(hx("5E"))
+    yield "areas for 32 bits and 20", lend(lent(32, 20)), []
+    before = open_pair(2, 32, 20, XON, marks(hx("11 41"))) + receiver(
+        settings=2, work=1, decoded=3, held=2, frame=1, width=32, limit=20, mode=ESCAPED, control=XON)
+    stays = state("2 1 3 3 0 0 0 1 0 0", 32, 20, mode=ESCAPED, control=XON)
+    for answer, width, limits in (("R 23", 16, (0, 1, 16385, 65535)), ("R 23", 24, (0, 1, 16385, 65535)), ("R 3", 24, (2, 2048, 16384)),
+                                  ("R 3", 0, (2,)), ("R 3", 255, (2,))):
+        for name, given in (("good maps", {}), ("a bad sending map", dict(sending=bad)), ("a mark lacks", dict(control=1))):
+            yield (f"{answer}, width {width}, {name}", before + b"".join(open_pair(3, width, limit, **given) for limit in limits) + D
+                   + send_plain(hx("41 11")), [*[answer] * len(limits), *stays, written(hx("41 11"), 32, hx("11 41"))])
+    for limit, width, *_ in BOUNDS:
+        yield (f"R 19, limit {limit}, {width} bits", before + open_pair(3, width, limit, 0, bad) + open_pair(3, width, limit, 1) + D
+               + send_plain(hx("41 11")), ["R 19", "R 19", *stays, written(hx("41 11"), 32, hx("11 41"))])
+    yield ("a refused opening leaves states out of bounds too", DEFAULT_LENGTHS + receiver(left=208, mode=PLAIN)
+           + hand_plain_sender(24, 1, bad) + open_pair(3, 16, 2048, 1) + D + send_plain(TWO) + receive(FLAG),
+           ["R 19", *state("3 0 0 0 208 0 0 0 0 0", mode=PLAIN), "R 3", "R 3"])
+    yield ("an opening ends what was there", before + open_pair(3, 16, 2048) + D + send_plain(hx("41 11")) + DEFAULT_LENGTHS,
+           [*state(FRESH_NUMBERS, mode=COBS), written(hx("41 11"))])
+
+
+def plain_sends():
+    """What is written: each marked octet of packet and FCS as two, the flag at the end, none before; the rest of out stays."""
+    every = bytes(range(256))
+    for width in WIDTHS:
+        for name, marked in (("none", b""), ("controls", CONTROLS), ("11 13", hx("11 13")), ("FF", hx("FF")), ("5D", hx("5D")),
+                             ("all that may be", ALLOWED), ("all above 7F", range(0x80, 0x100))):
+            marked = bytes(marked)
+            yield (f"{width} bits, marks {name}: every octet", open_pair(3, width, sending=marks(marked)) + send_plain(every),
+                   [written(every, width, marked)])
+        for name, check in (("7E", FLAG), ("7D", hx("7D")), ("00", b"\0"), ("5E", hx("5E")), ("11", hx("11"))):
+            data = with_check(b"12", width, check * (width // 8))
+            tail = {"7E": "7D 5E", "7D": "7D 5D", "11": "7D 31"}.get(name, name)
+            line = stuffed(data, hx("11")) + hx(tail) * (width // 8) + FLAG
+            yield (f"{width} bits, FCS {name}", open_pair(3, width, sending=marks(hx("11"))) + send_plain(data),
+                   [f"W {len(line)} {line.hex(' ').upper()}"])
+    yield ("out is written from its start, the rest stays", open_pair(3) + lend_out(40960) + fill(OUT_AREA, 0, hx("EE") * 9)
+           + send_plain(TWO)
+           + show(OUT_AREA, 0, 9), ["W 5 41 42 EF 31 7E", "X 41 42 EF 31 7E EE EE EE EE"])
+    yield ("the same packet again, then a shorter line", send_plain(hx("7E 7E")) + send_plain(TWO) + show(OUT_AREA, 0, 9),
+           ["W 7 7D 5E 7D 5E 6A FF 7E", "W 5 41 42 EF 31 7E", "X 41 42 EF 31 7E FF 7E EE EE"])
+    yield ("the ends and their areas stay", fill_all() + receiver(decoded=3, frame=1, mode=ESCAPED, control=5, held=2) + send_plain(TWO)
+           + D
+           + show_sender() + show_receiver() + lend_out(2051),
+           ["W 5 41 42 EF 31 7E", *state("3 0 3 3 0 0 0 1 0 0", mode=ESCAPED, control=5), *["X 01 02 03 04 05 06 07 08"] * 2,
+            *["X 01 02 03 04 05 06"] * 2])
+
+
+def exactly_long_enough():
+    """2 exactly where the octets do not fit, for the packet as it is, with the map as it is."""
+    marked = hx("00 11")
+
+    def packets(length, width, octet):
+        """So many octets of 41 and of another; of a long one, one of the two."""
+        kinds = {"41": b"A" * length, octet: hx(octet) * length}
+        return ((name, data, len(ppp_line(data, width, marked))) for name, data in kinds.items()
+                if length < LONGEST or (width, length, name) in ((16, LONGEST + 1, "41"), (32, LONGEST, "7E")))
+
+    for limit, width, *_ in BOUNDS:
+        yield (f"limit {limit}, {width} bits: a pair", open_pair(3, width, limit, sending=marks(marked))
+               + fill(OUT_AREA, 0, hx("EE EE")), [])
+        for length in (1, limit + 1):
+            for name, data, count in packets(length, width, "11"):
+                areas, answers = (count - 1, count), "R 2, R 1"
+                if length < 300:
+                    areas, answers = (0, *areas, 40960), f"R 2, {answers}, R 1"
+                yield (f"limit {limit}, {width} bits, {length} of {name}: 2, then 1", b"".join(
+                    lend_out(area) + send_plain(data) for area in areas) + show(OUT_AREA, 0, 2), [*answers.split(", "), "X EE EE"])
+        for length in sorted({2, min(limit, 300), limit}):
+            for name, data, count in packets(length, width, "7E"):
+                shown, end = show(OUT_AREA, count - 2, 4), ppp_line(data, width, marked)[-2:].hex(" ").upper()
+                yield (f"limit {limit}, {width} bits, {length} of {name}: {count} octets", fill(OUT_AREA, 0, hx("EE EE"))
+                       + fill(OUT_AREA, count - 2, hx("EE EE EE EE")) + lend_out(count - 1) + send_plain(data) + shown
+                       + show(OUT_AREA, 0, 2)
+                       + lend_out(count) + send_plain(data) + shown,
+                       ["R 2", "X EE EE EE EE", "X EE EE", written(data, width, marked), f"X {end} EE EE"])
+    # No octet at all: its FCS is 00 00, or 00 00 00 00.
+    for width, marked, count in ((16, b"", 3), (16, b"\0", 5), (32, b"", 5), (32, b"\0", 9)):
+        yield (f"no octet, {width} bits, {'00 marked' if marked else 'nothing marked'}: {count}",
+               open_pair(3, width, sending=marks(marked))
+               + lend_out(count - 1) + send_plain(b"") + lend_out(count) + send_plain(b""), "R 2, R 1")
+    most, more = (FLAG * count for count in (20478, 20479))
+    assert [len(ppp_line(data)) for data in (most, more)] == [40959, 40961]
+    yield ("as much as can be lent, and more", open_pair(3) + lend_out(65535) + send_plain(most) + send_plain(more) + lend_out(2051),
+           "R 1, R 2")
+
+
+def plain_sender_states():
+    """3 by width or limit, 2, 3 by the marks, 1."""
+    good = hx("7D 7E")
+    for width in (0, 8, 15, 17, 24, 31, 33, 48, 255):
+        yield (f"width {width}", b"".join(lend_out(area) + hand_plain_sender(width, 2048, sending) + send_plain(data)
+                                          for area in (0, 5, 2051)
+                                          for sending in (marks(good), marks(b"")) for data in (TWO, ONE)), ", ".join(["R 3"] * 12))
+    for limit in OUT_OF_RANGE:
+        yield (f"limit {limit}", b"".join(lend_out(area) + hand_plain_sender(width, limit, marks(good)) + send_plain(data)
+                                          for area in (0, 2051) for width in (16, 32, 24) for data in (TWO, b"")),
+               ", ".join(["R 3"] * 12))
+    for name, marked in (("nothing", b""), ("7D", hx("7D")), ("7E", hx("7E")), ("7D 7E 5E", hx("5E 7D 7E")),
+                         ("7D 7E 20", hx("20 7D 7E")),
+                         ("7D 7E 3F", hx("3F 7D 7E")), ("all", bytes(range(256))), ("all but 7D", ALLOWED.replace(hx("7D"), b""))):
+        for limit, width, *_ in BOUNDS:
+            def count(data, width=width, marked=marked):
+                """Octets of a line that escapes what is marked, and nothing else."""
+                return sum(2 if octet in marked else 1 for octet in data + fcs(data, width)) + 1
+
+            packets = [hx("7D 7E"), hx("5E 3F"), ONE, b"", *[b"A" * (limit + 1)] * (limit < 2048 or limit == 2048 and not marked)]
+            yield (f"marks {name}, limit {limit}, {width} bits", hand_plain_sender(width, limit, marks(marked))
+                   + fill(OUT_AREA, 0, hx("EE EE"))
+                   + b"".join(lend_out(area) + send_plain(data) for data in packets for area in (count(data) - 1, count(data)))
+                   + show(OUT_AREA, 0, 2), ["R 2", "R 3"] * len(packets) + ["X EE EE"])
+    yield ("each octet marked beside 7D and 7E", lend_out(2051) + b"".join(
+        hand_plain_sender(16, 2048, marks((octet, 0x7D, 0x7E))) + send_plain(bytes((octet, 0x41))) for octet in range(256)),
+        ", ".join("R 3" if octet in FORBIDDEN else written(bytes((octet, 0x41)), marked=bytes((octet,))) for octet in range(256)))
+    yield ("in bounds: all that may be marked, 1 comes last", hand_plain_sender(16, 3, marks(ALLOWED)) + send_plain(ONE)
+           + send_plain(FOUR)
+           + send_plain(THREE), f"R 1, R 1, {written(THREE, marked=ALLOWED)}")
+    yield ("no receiving map is looked at", open_receiver(3, plain=1, control=ALL) + hand_plain_sender(16, 2048, marks(good))
+           + send_plain(CONTROLS), [written(CONTROLS)])
+    for width, limit, longest in ((32, 2, TWO), (16, 3, THREE), (32, 2048, b"A" * 2048)):
+        yield (f"handed in: {width} bits, limit {limit}", lend_out(40960) + hand_plain_sender(width, limit, marks(good))
+               + send_plain(longest)
+               + send_plain(longest + b"A") + lend_out(2051), [written(longest, width), "R 1"])
+
+
+def plain_first_octet():
+    """With plain reading on each octet but FF is as it was; what was held goes with the FF alone. FF is written and counted."""
+    def after(octet, settings):
+        if octet != 0xFF:
+            return state(after_first(octet, settings), mode=COBS, control=XON)
+        return state(f"{settings} 0 1 0 0 0 0 1 0 0", mode=PLAIN, control=XON)
+
+    for settings in (0, 3):
+        yield (f"settings {settings:02X}, 3 held", DEFAULT_LENGTHS + b"".join(
+            holding(3, settings=settings, mode=COBS, control=XON) + receive(bytes((octet,))) + D for octet in range(256)),
+            [line for octet in range(256) for line in after(octet, settings)])
+
+
+def begins_plain():
+    """A frame that begins FF in COBS reading; what is held is let go at once, the areas do not turn."""
+    for limit, width, _, most, *_ in BOUNDS:
+        agreed = dict(width=width, limit=limit)
+        on = dict(mode=PLAIN, control=ALL, **agreed)
+        for work in (0, 1):
+            for held in (None, 0, 1, most):
+                yield (f"limit {limit}, {width} bits, area {work} works, {held} held", lend(lent(width, limit))
+                       + fill(2 + work, 0, hx("EE EE EE"))
+                       + fill(3 - work, 0, hx("DD DD DD")) + receiver(work=work, held=held, mode=COBS, control=ALL, **agreed)
+                       + receive(hx("FF"))
+                       + D + show(2 + work, 0, 3) + show(3 - work, 0, 3) + receive(hx("03")) + D + receive(hx("C0")) + D
+                       + show(2 + work, 0, 3) + receive(FLAG) + D,
+                       [*state(f"3 {work} 1 0 0 0 0 1 0 0", **on), "X FF EE EE", "X DD DD DD",
+                        *state(f"3 {work} 1 0 0 0 0 1 0 0", **on),
+                        *state(f"3 {work} 2 0 0 0 0 1 0 0", **on), "X FF C0 EE", "R 13", *state(f"3 {work} 0 0 0 0 0 0 0 0", **on)])
+    yield "areas for 16 bits and 2,048", DEFAULT_LENGTHS, []
+    for settings in (0, 1, 2, 3, 0xFC, 0xFF):
+        for held in (None, 3):
+            yield (f"settings {settings:02X}, {held} held: on, and off", receiver(settings=settings, held=held, mode=COBS)
+                   + receive(hx("FF")) + D
+                   + receive(LCP_LINE[1:]) + receiver(settings=settings, held=held) + receive(hx("FF")) + D + receive(LCP_LINE[1:]),
+                   [*state(f"{settings} 0 1 0 0 0 0 1 0 0", mode=PLAIN), "P 0 8 FF 03 C0 21 01 01 00 04",
+                    *state(f"{settings} 0 0 0 0 0 0 1 0 5"), "R 5"])
+    yield ("reading off outlasts FF frames", open_receiver(3) + receive(hx("FF 7E FF 03 7E") + LCP_LINE + hx("E0 03 47 0F 7E")) + D,
+           ["R 5", "R 5", "R 5", "P 0 2 00 00", *state(FRESH_NUMBERS)])
+    yield ("off, a map handed in: never plain", receiver(control=ALL) + receive(hx("FF 7E 7D 7E 11 7E")) + D,
+           ["R 5", "H 0 0", "H 0 1", *state("3 0 0 1 0 0 0 0 0 0", control=ALL, held=b"")])
+    yield ("D1 after the FF frame is data", open_receiver(3, plain=1) + receive(hx("05 31 7E FF 7E D1 01 7E")) + D,
+           ["H 1 0", "R 13", "R 13", *state("3 1 0 0 0 0 0 0 0 0", mode=PLAIN)])
+
+
+def ff_not_first():
+    """In COBS reading FF that does not begin a frame, and a frame that does not begin FF, switch nothing."""
+    on = dict(mode=COBS, control=XON)
+    yield "areas for 16 bits and 2,048", DEFAULT_LENGTHS, []
+    for name, octets, answers in (
+            ("a later code", "01 FF 7E", "R 7"), ("data", "05 FF 7E", "H 1 1"), ("behind D1", "D1 FF 7E", "R 7"),
+            ("behind D2", "D2 FF 7E", "R 7"),
+            ("in the FCS", "05 00 00 6A FF 7E", "P 0 2 7E 7E"), ("escaped as plain PPP would", "7D DF 7D 23 7E", "H 3 1"),
+            ("behind an octet of the map", "11 FF 03 7E", "H 2 1"), ("behind 00", "00 FF 7E", "H 1 1"),
+            ("behind 7D", "7D FF 7E", "H 1 1")):
+        yield (name, holding(5, **on) + receive(hx(octets)) + receive(hx("E0 03 47 0F 7E")) + D, f"{answers}, P "
+               + ("1" if answers[0] == "H" or name == "behind D1" else "0") + " 2 00 00")
+    yield ("the map is not looked at in COBS: 11 is a code and data", open_receiver(3, plain=1, control=ALL) + receive(
+        hx("02 11 E0 03 47 0F 7E") + block_line(hx("11 13"), 16)) + D,
+           ["R 14", "P 0 2 11 13", *state(FRESH_NUMBERS, mode=COBS, control=ALL)])
+    yield ("7D is no escape in COBS", open_receiver(3, plain=1) + receive(block_line(hx("7D 31"), 16)), "P 0 2 7D 31")
+    yield ("behind flags alone it begins a frame", receiver(held=5, **on) + receive(hx("7E 7E FF")) + D,
+           state("3 0 1 0 0 0 0 1 0 0", mode=PLAIN, control=XON))
+    yield ("a sender that marks FF switches no receiver", open_pair(3, sending=marks(hx("FF"))) + send_plain(hx("FF 03 C0 21"))
+           + receive(hx("7D DF 03 C0 21")) + D,
+           [written(hx("FF 03 C0 21"), marked=hx("FF")), *state("3 0 4 0 120 1 2 1 0 0", mode=COBS)])
+
+
+def after_octet(octet, decoded, mode, control):
+    """Octets decoded, mode and the octet written (none: EE lies there) after an octet other than the flag in plain reading."""
+    if octet < 0x20 and control >> octet & 1:
+        return decoded, mode, "EE"
+    if mode == ESCAPED:
+        return decoded + 1, PLAIN, f"{octet ^ 0x20:02X}"
+    return (decoded, ESCAPED, "EE") if octet == 0x7D else (decoded + 1, PLAIN, f"{octet:02X}")
+
+
+def every_plain_octet():
+    """Each octet but the flag: out of a frame, in one, and behind an escape; with an empty map, and one of each second octet."""
+    yield "areas for 16 bits and 2,048", DEFAULT_LENGTHS, []
+    places = (("in a frame", 3, PLAIN), ("behind an escape", 3, ESCAPED), ("out of a frame", 0, PLAIN),
+              ("behind an escape that begins the frame", 0, ESCAPED))
+    for control, some in ((0, places[:2]), (0x5555AAAA, places)):
+        for name, decoded, mode in some:
+            frame, commands, lines = int(decoded > 0 or mode == ESCAPED), b"", []
+            for octet in range(256):
+                if octet != 0x7E:
+                    commands += (fill(2, decoded, hx("EE")) + receiver(decoded=decoded, frame=frame, mode=mode, control=control)
+                                 + receive(bytes((octet,))) + D + show(2, decoded, 1))
+                    count, then, put = after_octet(octet, decoded, mode, control)
+                    begun = int(frame or (count, then) != (decoded, mode))
+                    lines += [*state(f"3 0 {count} 0 0 0 0 {begun} 0 0", mode=then, control=control), f"X {put}"]
+            yield f"map {control:08X}, {name}", commands, lines
+
+
+def removed_octets():
+    """What is removed changes no report: it begins no frame, ends no escape and is not counted. What an escape gives stays."""
+    frame = ppp_line(hx("7E 41"))  # 7D 5E 41 1E 36 7E: FCS 1E 36
+    assert frame == hx("7D 5E 41 1E 36 7E")
+    on = dict(mode=PLAIN, control=XON)
+    yield "areas for 16 bits and 2,048", DEFAULT_LENGTHS, []
+    for at in range(len(frame) + 1):
+        for some in (hx("11"), hx("11 11 11")):
+            yield (f"{len(some)} at {at}", receiver(**on) + receive(frame[:at] + some + frame[at:]), "P 0 2 7E 41")
+    yield ("everywhere", receiver(**on) + receive(b"".join(hx("11 11") + bytes((octet,)) for octet in frame) + hx("11")), "P 0 2 7E 41")
+    yield ("without the map", receiver(mode=PLAIN) + receive(frame[:3] + hx("11") + frame[3:]), "R 14")
+    yield ("they begin no frame", receiver(**on) + receive(hx("11")) + D + receive(hx("11 11")) + D + receive(hx("7E 11 7E")) + D,
+           state(FRESH_NUMBERS, **on) * 3)
+    yield ("others do", receiver(**on) + receive(hx("10")) + D + receive(FLAG), [*state("3 0 1 0 0 0 0 1 0 0", **on), "R 13"])
+    yield ("they end no escape", receiver(**on) + receive(hx("7D")) + D + receive(hx("11 11")) + D + receive(hx("31")) + D
+           + show(2, 0, 1),
+           [*state("3 0 0 0 0 0 0 1 0 0", mode=ESCAPED, control=XON) * 2, *state("3 0 1 0 0 0 0 1 0 0", **on), "X 11"])
+    yield ("7D alone, and 7D 11: 18", receiver(**on) + receive(hx("7D 7E 7D 11 7E 11 7D 7E 7D 11 11 7E")), "R 18, R 18, R 18, R 18")
+    yield ("7D 31 is 11, not removed; 7D 33 is 13", receiver(**on) + receive(ppp_line(hx("11 13"), marked=CONTROLS)), "P 0 2 11 13")
+    yield ("7D 11 31 is 11 too", receiver(**on) + receive(ppp_line(hx("11 13"), marked=CONTROLS).replace(hx("7D"), hx("7D 11"))),
+           "P 0 2 11 13")
+    yield ("each control octet, escaped, through a full map", b"".join(
+        receiver(mode=PLAIN, control=ALL) + receive(ppp_line(bytes((octet, 0x41)), marked=CONTROLS)) for octet in range(32)),
+        ", ".join(f"P 0 2 {octet:02X} 41" for octet in range(32)))
+    yield ("each control octet, put in everywhere, full map", b"".join(
+        receiver(mode=PLAIN, control=ALL) + receive(ppp_line(TWO).replace(b"", bytes((octet,)))) for octet in range(32)),
+        ", ".join(["P 0 2 41 42"] * 32))
+    yield ("each control octet, put in, map of another", b"".join(
+        receiver(mode=PLAIN, control=ALL ^ 1 << octet) + receive(hx("41 42") + bytes((octet,)) + hx("EF 31 7E"))
+        for octet in range(32)),
+        ", ".join(["R 14"] * 32))
+    yield ("20 and above are never removed", b"".join(
+        receiver(mode=PLAIN, control=ALL) + receive(bytes((octet,)) + FLAG) for octet in range(32, 256) if octet not in (0x7D, 0x7E)),
+        ", ".join(["R 13"] * 222))
+    yield ("handed in: in a frame, nothing decoded, no escape: 13", b"".join(
+        receiver(frame=1, **on) + receive(octets) for octets in (FLAG, hx("11 7E"))), "R 13, R 13")
+    for limit, width, longest, *_ in BOUNDS:
+        if limit < LONGEST:
+            line = ppp_line(b"A" * limit, width, hx("11"))
+            yield (f"limit {limit}, {width} bits: they are not counted", reads_plain(width, limit, XON) + receive(
+                line[:-2] + hx("11") * 9 + line[-2:-1] + hx("11 11")) + D + receive(FLAG),
+                [*state(f"3 0 {longest} 0 0 0 0 1 0 0", width, limit, **on), packet_line(0, b"A" * limit)])
+    yield "areas for 16 bits and 2,048 once more", DEFAULT_LENGTHS, []
+
+
+def escapes():
+    """7D and the octet behind it, whatever that is, but for the flag and what is removed."""
+    yield "areas for 16 bits and 2,048", DEFAULT_LENGTHS, []
+    for octets, put in (("7D 7D", "5D"), ("7D 5D", "7D"), ("7D 5E", "7E"), ("7D 20", "00"), ("7D 00", "20"), ("7D FF", "DF"),
+                        ("7D DF", "FF"),
+                        ("7D 31", "11"), ("7D 11", "31"), ("7D 41", "61")):
+        yield (octets, reads_plain() + fill(2, 0, hx("EE EE")) + receive(hx(octets)) + D + show(2, 0, 2) + receive(FLAG),
+               [*state("3 0 1 0 0 0 0 1 0 0", mode=PLAIN), f"X {put} EE", "R 13"])
+    yield ("7D 7D is 5D, not an escape still open", reads_plain() + receive(hx("7D 7D 7D 7D 7D")) + D + receive(FLAG) + D,
+           [*state("3 0 2 0 0 0 0 1 0 0", mode=ESCAPED), "R 18", *state(FRESH_NUMBERS, mode=PLAIN)])
+    yield ("an escape does not outlast its flag", reads_plain() + receive(hx("7D 7E 41 42 EF 31 7E")), "R 18, P 0 2 41 42")
+    yield ("octets escaped without need", reads_plain() + receive(ppp_line(TWO, marked=bytes(range(0x40, 0x100)))), "P 0 2 41 42")
+    for width in WIDTHS:
+        every = bytes(range(256))
+        for name, marked in (("7D and 7E", b""), ("controls", CONTROLS), ("all that may be", ALLOWED)):
+            yield (f"{width} bits: every octet, marks {name}", reads_plain(width) + receive(ppp_line(every, width, marked)),
+                   packet_line(0, every))
+        yield (f"{width} bits: 00 is 00, not 7E", reads_plain(width) + receive(ppp_line(bytes(3), width)), "P 0 3 00 00 00")
+        yield (f"{width} bits: FF and D1 begin frames like any", reads_plain(width) + receive(
+            ppp_line(hx("FF FF"), width) + ppp_line(hx("D1 D1"), width)), "P 0 2 FF FF, P 0 2 D1 D1")
+
+
+def plain_reports():
+    """At the flag: 10, 18, 13, 14, Packet; by states handed in, whose octets are all 31 or a packet."""
+    fates = ((None, 0, 0), (2, 0, 3), (2, 1, 0))  # what is held, whether resumed, and the number of what is held after the flag
+    for limit, width, longest, most, *_ in BOUNDS:
+        least = 2 + width // 8
+        for work in (0, 1) if limit == 3 else ({16: 0, 32: 1}[width],):
+            name = f"limit {limit}, {width} bits, area {work}"
+
+            def told_at_flag(decoded, mode, answer, work=work, width=width, limit=limit):
+                """Commands and lines for each of the three fates of what is held."""
+                commands = b"".join(receiver(work=work, decoded=decoded, frame=1, held=held, resumed=resumed, mode=mode, width=width,
+                                             limit=limit) + receive(FLAG) + D for held, resumed, _ in fates)
+                return commands, [line for _, _, after in fates for line in (
+                    answer, *state(f"3 {work} 0 {after} 0 0 0 0 0 0", width, limit, mode=PLAIN))]
+
+            yield f"{name}: areas", lend(lent(width, limit)) + fill(2 + work, 0, b"1" * most), []
+            for decoded in sorted({0, 1, least - 1, least, longest - 1, longest, most}):
+                assert register_over(b"1" * decoded, width) not in (0xF0B8, 0xDEBB20E3)
+                for mode in (PLAIN, ESCAPED):
+                    answer = 10 if decoded > longest else 18 if mode == ESCAPED else 13 if decoded < least else 14
+                    yield f"{name}: {decoded} decoded, mode {mode}", *told_at_flag(decoded, mode, f"R {answer}")
+            for length in sorted({2, limit}):
+                data = b"A" * length
+                commands, lines = told_at_flag(length + width // 8, PLAIN, packet_line(work, data))
+                if length == LONGEST:  # once is enough
+                    commands, lines = commands[:len(commands) // 3], lines[:len(lines) // 3]
+                yield f"{name}: a packet of {length}", fill(2 + work, 0, data + fcs(data, width)) + commands, lines
+                yield f"{name}: a packet of {length} and an escape open", *told_at_flag(length + width // 8, ESCAPED, "R 18")
+            data = b"A" * (limit + 1)
+            yield (f"{name}: a packet of one octet too many", fill(2 + work, limit - 1, (data + fcs(data, width))[limit - 1:])
+                   + told_at_flag(most, PLAIN, "R 10")[0], told_at_flag(most, PLAIN, "R 10")[1])
+    yield "areas for 16 bits and 2,048", DEFAULT_LENGTHS, []
+
+
+def short_and_damaged():
+    """13 and 14 by octets that arrive: lengths on both sides of the least frame; every bit of a frame turned."""
+    for width in WIDTHS:
+        for count in range(9):
+            yield (f"{count} octets, {width} bits", plain_opened(width) + receive(hx("FF 7E") + b"1" * count + FLAG),
+                   ", ".join(["R 13"] + ["R 13" if count < 2 + width // 8 else "R 14"] * (count > 0)))
+            whole = b"A" * count + fcs(b"A" * count, width)
+            yield (f"{count} octets and their FCS, {width} bits", receive(stuffed(whole) + FLAG),
+                   packet_line(0, b"A" * count) if count >= 2 else "R 13")
+        for name, line in (("FF", hx("FF")), ("FF 03", hx("FF 03")), ("FF and less than a frame", hx("FF") + b"1" * (width // 8))):
+            yield f"{name}, {width} bits", plain_opened(width) + receive(line + FLAG), "R 13"
+        yield (f"FF and as much as a frame, {width} bits", plain_opened(width) + receive(hx("FF") + b"1" * (1 + width // 8) + FLAG),
+               "R 14")
+        whole = NINE + fcs(NINE, width)
+        damaged = [bytes(octet ^ (1 << bit % 8) * (at == bit // 8) for at, octet in enumerate(whole)) for bit in range(8 * len(whole))]
+        yield (f"a bit is wrong, at each place, {width} bits", reads_plain(width)
+               + b"".join(receive(stuffed(octets) + FLAG) for octets in damaged),
+               ", ".join(["R 14"] * len(damaged)))
+        yield (f"an octet is lost, at each place, {width} bits",
+               b"".join(receive(whole[:at] + whole[at + 1:] + FLAG) for at in range(len(whole))),
+               ", ".join(["R 14"] * len(whole)))
+        yield (f"the other width's FCS, {width} bits", receive(ppp_line(NINE, 48 - width)) + receive(ppp_line(TWO, 48 - width)),
+               "R 14, " + ("R 14" if width == 16 else "R 13"))
+        yield f"FCS high octet first, {width} bits", receive(stuffed(NINE + fcs(NINE, width)[::-1]) + FLAG), "R 14"
+        yield f"flags alone, {width} bits", receive(FLAG * 5) + D, state(FRESH_NUMBERS, width, mode=PLAIN)
+    yield "areas for 16 bits and 2,048", DEFAULT_LENGTHS, []
+
+
+def plain_too_much():
+    """10: the octet that is one too many is not written; 7D is none; 18 only without it."""
+    for limit, width, longest, most, *_ in BOUNDS:
+        agreed = dict(width=width, limit=limit)
+        name = f"limit {limit}, {width} bits"
+        on = dict(mode=PLAIN, **agreed)
+        shown = show(2, longest - 2, 4)
+        before = lend(lent(width, limit)) + fill(2, longest - 2, hx("31 31 EE EE EE"))
+
+        def refused(mode=PLAIN, decoded=longest, agreed=agreed):
+            return state(f"3 0 {decoded} 0 0 0 0 1 0 10", mode=mode, **agreed)
+
+        yield (f"{name}: one less, then two octets", before + receiver(decoded=longest - 1, frame=1, **on) + receive(hx("41")) + D
+               + shown
+               + receive(hx("42")) + D + shown + receive(FLAG) + D,
+               [*state(f"3 0 {longest} 0 0 0 0 1 0 0", **on), "X 31 41 EE EE", *refused(), "X 31 41 EE EE", "R 10",
+                *state(FRESH_NUMBERS, **on)])
+        yield (f"{name}: then an escape", before + receiver(decoded=longest, frame=1, **on) + receive(hx("7D")) + D + shown
+               + receive(FLAG) + D,
+               [*state(f"3 0 {longest} 0 0 0 0 1 0 0", mode=ESCAPED, **agreed), "X 31 31 EE EE", "R 18", *state(FRESH_NUMBERS, **on)])
+        yield (f"{name}: then an escaped octet", before + receiver(decoded=longest, frame=1, **on) + receive(hx("7D 41")) + D + shown
+               + receive(FLAG) + D, [*refused(), "X 31 31 EE EE", "R 10", *state(FRESH_NUMBERS, **on)])
+        yield (f"{name}: behind 10 all is skipped", before + receiver(decoded=longest, frame=1, **on) + receive(hx("41 7D")) + D
+               + receive(hx("7D 41 FF 00 D1")) + D + shown + receive(FLAG) + receive(ppp_line(TWO, width)),
+               [*refused() * 2, "X 31 31 EE EE", "R 10", "P 0 2 41 42"])
+        yield (f"{name}: one octet more handed in", before + b"".join(
+            receiver(decoded=most, frame=1, mode=mode, **agreed) + receive(octets) + D + shown for mode in (PLAIN, ESCAPED)
+            for octets in (hx("41"), hx("7D"), FLAG)),
+            [*refused(decoded=most), "X 31 31 EE EE", *state(f"3 0 {most} 0 0 0 0 1 0 0", mode=ESCAPED, **agreed), "X 31 31 EE EE",
+             "R 10", *state(FRESH_NUMBERS, **on), "X 31 31 EE EE",
+             *refused(decoded=most), "X 31 31 EE EE", *refused(decoded=most), "X 31 31 EE EE", "R 10", *state(FRESH_NUMBERS, **on),
+             "X 31 31 EE EE"])
+        for octet, opens, way in ((b"A", receiver(**on), "plain"), (hx("FF"), plain_opened(width, limit), "COBS up to its FF")):
+            if limit < LONGEST or way == {16: "plain", 32: "COBS up to its FF"}[width]:
+                yield (f"{name}, {way}: the longest packet", opens + receive(ppp_line(octet * limit, width)),
+                       packet_line(0, octet * limit))
+                yield (f"{name}, {way}: one octet longer", opens + receive(ppp_line(octet * (limit + 1), width)) + D,
+                       ["R 10", *state(FRESH_NUMBERS, **on)])
+    yield "areas for 16 bits and 2,048", DEFAULT_LENGTHS, []
+
+
+def plain_bounds():
+    """Every mode, in a frame and out of one, a refusal remembered or none, held and resumed or not: in bounds or 3."""
+    def in_bounds(mode, frame, refusal, left, zeros, last, held, resumed, decoded):
+        block = left or zeros or last
+        if refusal == 5 and (mode != OFF or held is not None):
+            return False
+        if not frame:
+            return not (decoded or block or resumed or refusal or mode == ESCAPED)
+        if mode in (PLAIN, ESCAPED):
+            return not block
+        return bool(refusal or (resumed if last == 0 else last == 1 or left or decoded))
+
+    for mode in range(4):
+        for frame in (0, 1):
+            for refusal in (0, 5, 6, 10, 21):
+                commands, answers = b"", []
+                for left, zeros, last in ((0, 0, 0), (1, 0, 0), (0, 1, 0), (0, 0, 1), (0, 0, 2), (207, 2, 2)):
+                    for held in (None, 2):
+                        for resumed in (0, 1):
+                            for decoded in (0, 7) if frame or not left else (0,):
+                                given = dict(left=left, zeros=zeros, last=last, held=held, resumed=resumed, decoded=decoded)
+                                commands += receiver(mode=mode, frame=frame, refusal=refusal, **given) + receive(hx("00"))
+                                answers += ["R 3"] * (not in_bounds(mode, frame, refusal, **given))
+                yield f"mode {mode}, in a frame {frame}, refusal {refusal}", commands, ", ".join(answers)
+    for mode in range(4):
+        for refusal in (*range(12), 13, 14, 17, 18, 19, 20, 21, 22, 255):
+            good = refusal in (0, *range(6, 11), 21) or refusal == 5 and mode == OFF
+            yield (f"mode {mode}, {refusal} remembered", receiver(mode=mode, frame=1, resumed=1, refusal=refusal)
+                   + receive(hx("00 7E")),
+                   "R 3, R 3" if not good else f"R {refusal}" if refusal else "H 0 0" if mode < PLAIN else "R 13")
+    for limit, width, longest, most, *_ in BOUNDS:
+        for mode in (PLAIN, ESCAPED):
+            agreed = dict(width=width, limit=limit, mode=mode)
+            yield (f"limit {limit}, {width} bits, mode {mode}: decoded", lend(lent(width, limit)) + b"".join(
+                receiver(decoded=count, frame=1, refusal=refusal, **agreed) + receive(FLAG)
+                for refusal in (0, 9) for count in (most, most + 1, 65535)), "R 10, R 3, R 3, R 9, R 3, R 3")
+            yield (f"limit {limit}, {width} bits, mode {mode}: held", b"".join(
+                receiver(held=held, frame=1, **agreed) + receive(FLAG) for held in (0, most, most + 1, 65534)),
+                "R 18, R 18, R 3, R 3" if mode == ESCAPED else "R 13, R 13, R 3, R 3")
+            yield (f"limit {limit}, {width} bits, mode {mode}: register", b"".join(
+                receiver(held=held, frame=1, register=register, **agreed) + receive(FLAG) for held, register in (
+                    (None, 2 ** width - 1), (None, 2 ** width - 2), (None, 0), (2, 0), (2, 2 ** width - 1))),
+                ", ".join(["R 18" if mode == ESCAPED else "R 13", "R 3", "R 3", *["R 18" if mode == ESCAPED else "R 13"] * 2]))
+        yield (f"limit {limit}, {width} bits: register beyond 16 bits", receiver(
+            held=2, frame=1, register=0x10000, width=width, limit=limit, mode=PLAIN) + receive(FLAG), "R 3" if width == 16 else "R 13")
+        yield (f"limit {limit}, {width} bits: out of a frame", b"".join(
+            receiver(mode=mode, held=held, work=1, control=control, width=width, limit=limit) + receive(FLAG)
+            for mode in range(4) for held in (None, most) for control in (0, XON, ALL)), ", ".join(["R 3"] * 6))
+    yield "areas for 16 bits and 2,048", DEFAULT_LENGTHS, []
+    yield ("5 in a mode other than off, whatever the octet", b"".join(
+        receiver(mode=mode, frame=1, refusal=5) + receive(bytes((octet,))) for mode in (COBS, PLAIN, ESCAPED)
+        for octet in range(0, 256, 14)),
+        ", ".join(["R 3"] * 57))
+    yield ("an escape out of a frame, whatever the octet", b"".join(
+        receiver(mode=ESCAPED) + receive(bytes((octet,))) for octet in range(256)), ", ".join(["R 3"] * 256))
+    yield ("data left, zeros due or a last block in plain reading, whatever the octet", b"".join(
+        receiver(mode=mode, frame=1, decoded=5, **more) + receive(bytes((octet,))) for mode in (PLAIN, ESCAPED)
+        for more in (dict(left=1), dict(zeros=1), dict(last=1), dict(last=2)) for octet in range(0, 256, 14)), ", ".join(["R 3"] * 152))
+    yield ("with 208 left or 3 zeros in COBS as before", b"".join(
+        receiver(mode=COBS, **IN_OTHER, **more) + receive(FLAG)
+        for more in (dict(left=207), dict(left=208), dict(left=1, zeros=2), dict(left=1, zeros=3))),
+        "H 0 0, R 3, H 0 0, R 3")
+    yield ("modes count by their remainder by 4", b"".join(
+        hand_receiver((3, *[0] * 9, 16, 2048, 65535, 0, mode, 1, 2)) + D for mode in (4, 5, 6, 7, 258, 65535)),
+        [line for mode in (0, 1, 2, 3, 2, 3) for line in state(FRESH_NUMBERS, mode=mode, control=0x20001)])
+    yield ("the halves of the map stand low half first", hand_receiver((3, *[0] * 9, 16, 2048, 65535, 0, 2, 0x0002, 0x8000))
+           + receive(hx("01 1F")) + D
+           + receive(hx("00 1E 10")) + D,
+           [*state(FRESH_NUMBERS, mode=PLAIN, control=0x80000002), *state("3 0 3 0 0 0 0 1 0 0", mode=PLAIN, control=0x80000002)])
+
+
+def plain_held():
+    """What is held in plain reading, only in a state handed in: it stays until the flag of a frame marked resumed."""
+    yield "areas for 16 bits and 2,048", DEFAULT_LENGTHS, []
+    for work in (0, 1):
+        for name, octets, mode, decoded in (("FF", "FF", PLAIN, 1), ("D1", "D1", PLAIN, 1), ("7D", "7D", ESCAPED, 0),
+                                            ("31", "31", PLAIN, 1),
+                                            ("05 31", "05 31", PLAIN, 2), ("removed", "11", PLAIN, 0)):
+            begun = int(octets != "11")
+            yield (f"area {work}: {name} lets nothing go", fill(3 - work, 0, ramp(5))
+                   + receiver(work=work, held=5, mode=PLAIN, control=XON)
+                   + receive(hx(octets)) + D + receive(FLAG) + D,
+                   [*state(f"3 {work} {decoded} 6 0 0 0 {begun} 0 0", mode=mode, control=XON),
+                    *(["R 18" if mode == ESCAPED else "R 13"] * begun), *state(f"3 {work} 0 6 0 0 0 0 0 0", mode=PLAIN, control=XON)])
+        yield (f"area {work}: frames leave it", receiver(work=work, held=5, mode=PLAIN) + receive(
+            ppp_line(TWO) + hx("7D 7E 41 7E 41 42 43 44 45 7E") + b"A" * 2051 + FLAG) + D,
+            [f"P {work} 2 41 42", "R 18", "R 13", "R 14", "R 10", *state(f"3 {work} 0 6 0 0 0 0 0 0", mode=PLAIN)])
+        yield (f"area {work}: the held octets are not written", fill(3 - work, 0, ramp(6)) + receiver(work=work, held=5, mode=PLAIN)
+               + receive(ppp_line(b"A" * 300)) + show(3 - work, 0, 6), [packet_line(work, b"A" * 300), "X 01 02 03 04 05 06"])
+        for resumed in (0, 1):
+            for refusal in (0, 6, 7, 8, 9, 10, 21):
+                for mode in (PLAIN, ESCAPED):
+                    answer = f"R {refusal}" if refusal else "R 18" if mode == ESCAPED else "R 13"
+                    yield (f"area {work}: refusal {refusal}, mode {mode}, resumed {resumed}", receiver(
+                        work=work, decoded=2, held=5, frame=1, resumed=resumed, refusal=refusal, mode=mode, control=XON)
+                        + receive(hx("11")) + D + receive(FLAG) + D,
+                        [*state(f"3 {work} 2 6 0 0 0 1 {resumed} {refusal}", mode=mode, control=XON), answer,
+                         *state(f"3 {work} 0 {0 if resumed else 6} 0 0 0 0 0 0", mode=PLAIN, control=XON)])
+        yield (f"area {work}: a remembered refusal skips all octets", b"".join(
+            receiver(work=work, decoded=2, frame=1, refusal=7, mode=mode) + receive(hx("7D 41 FF D1 00 7D")) + D
+            for mode in (PLAIN, ESCAPED)),
+            [line for mode in (PLAIN, ESCAPED) for line in state(f"3 {work} 2 0 0 0 0 1 0 7", mode=mode)])
+        yield (f"area {work}: opened anew, nothing is held", receiver(work=work, held=5, mode=PLAIN) + open_receiver(3, plain=1) + D,
+               state(FRESH_NUMBERS, mode=COBS))
+
+
+def outlasts():
+    """Settings, width, limit, map and plain reading outlast every flag; nothing but an opening goes back to COBS."""
+    for limit, width, longest, *_ in BOUNDS:
+        for settings, control in ((3, 0), (0, ALL), (0xFE, 0x80000002)):
+            on = dict(width=width, limit=limit, mode=PLAIN, control=control)
+            fresh = state(f"{settings} 0 0 0 0 0 0 0 0 0", **on)
+            frames = ((FLAG, []), (ppp_line(TWO, width, CONTROLS), ["P 0 2 41 42"]), (hx("FF 7E"), ["R 13"]),
+                      (hx("41 7D 7E"), ["R 18"]),
+                      (b"A" * (2 + width // 8) + FLAG, ["R 14"]), (hx("D1 7E"), ["R 13"]), (hx("E0 7E"), ["R 13"]),
+                      (hx("FF 7D 7E"), ["R 18"]),
+                      *[(b"A" * (longest + 1) + FLAG, ["R 10"])] * (limit < LONGEST))
+            assert register_over(b"A" * (2 + width // 8), width) not in (0xF0B8, 0xDEBB20E3)
+            yield (f"limit {limit}, {width} bits, settings {settings:02X}, map {control:08X}", lend(lent(width, limit))
+                   + open_receiver(settings, width, limit, 1, control) + receive(hx("FF 7E")) + D
+                   + b"".join(receive(octets) + D for octets, _ in frames),
+                   ["R 13", *fresh, *(line for _, answers in frames for line in (*answers, *fresh))])
+    yield "areas for 16 bits and 2,048", DEFAULT_LENGTHS, []
+    cobs = block_line(TWO, 16)
+    yield ("COBS frames are read plain until COBS is opened anew", plain_opened() + receive(cobs + hx("FF 7E") + cobs * 3)
+           + open_receiver(3, plain=1)
+           + receive(cobs) + D, ["P 0 2 41 42", "R 13", *["R 14"] * 3, "P 0 2 41 42", *state(FRESH_NUMBERS, mode=COBS)])
+    yield ("a pair opened anew reads COBS too", plain_opened() + receive(hx("FF 7E")) + open_pair(3) + receive(cobs) + D,
+           ["R 13", "P 0 2 41 42", *state(FRESH_NUMBERS, mode=COBS)])
+    yield ("off again", plain_opened() + receive(hx("FF 7E")) + open_receiver(3) + receive(cobs + hx("FF 7E") + cobs) + D,
+           ["R 13", "P 0 2 41 42", "R 5", "P 0 2 41 42", *state(FRESH_NUMBERS)])
+
+
+def plain_orders():
+    """3 by width or limit, 2, 3 by the rest, as for COBS; areas of L + w + 1 though a plain frame has one octet less. A
+    refused call changes nothing, not the mode either."""
+    for name, lengths in (("first one short", SHORT_FIRST), ("second one short", SHORT_SECOND), ("nothing lent", lend((0,) * 4))):
+        for mode, frame in ((COBS, 0), (PLAIN, 0), (PLAIN, 1), (ESCAPED, 1)):
+            given = dict(mode=mode, frame=frame, control=XON, held=2)
+            stays = state(f"3 0 0 3 0 0 0 {frame} 0 0", mode=mode, control=XON)
+            yield (f"{name}, mode {mode}, in a frame {frame}: 2", lengths + receiver(**given) + receive(hx("FF 7D 41 11 7E")) + D,
+                   ["R 2"] * 5 + stays)
+            yield (f"{name}, mode {mode}, in a frame {frame}: 2 before 3", receiver(**{**given, "left": 208}) + receive(hx("FF 7E")),
+                   "R 2, R 2")
+            yield (f"{name}, mode {mode}, in a frame {frame}: 3 by width or limit before 2", b"".join(
+                receiver(**given, **wrong) + receive(hx("FF 7E")) for wrong in (dict(width=24), dict(limit=1), dict(limit=16385))),
+                ", ".join(["R 3"] * 6))
+    yield ("long enough again: FF", DEFAULT_LENGTHS + receiver(mode=COBS, held=2) + receive(hx("FF")) + D,
+           state("3 0 1 0 0 0 0 1 0 0", mode=PLAIN))
+    for limit, width, _, most, *_ in BOUNDS:
+        yield (f"limit {limit}, {width} bits: areas", b"".join(
+            lend((0, 0, first, second)) + receiver(width=width, limit=limit, mode=mode, frame=1) + receive(FLAG)
+            for mode in (PLAIN, ESCAPED) for first, second in ((most, most), (most - 1, most), (most, most - 1), (20480, 20480))),
+            "R 13, R 2, R 2, R 13, R 18, R 2, R 2, R 18")
+    yield ("3 by the rest changes nothing", DEFAULT_LENGTHS + receiver(mode=ESCAPED, frame=1, decoded=3, zeros=1, held=2, control=XON)
+           + receive(hx("41 7D 11 7E FF")) + D, ["R 3"] * 5 + state("3 0 3 3 0 1 0 1 0 0", mode=ESCAPED, control=XON))
+    yield ("3, 5 in COBS reading with nothing held", receiver(mode=COBS, frame=1, refusal=5) + receive(hx("41 7E")) + D,
+           ["R 3", "R 3", *state("3 0 0 0 0 0 0 1 0 5", mode=COBS)])
+
+
+def noises(width, limit, control):
+    """Octets that come before a flag, and what they and the flag are told by a receiver that reads plain."""
+    yield b"", []
+    yield hx("FF"), ["R 13"]
+    yield hx("7D"), ["R 18"]
+    yield hx("7D 7D 7D"), ["R 18"]
+    yield hx("D1 05 31 7E 7D"), ["R 13", "R 18"]
+    yield hx("11"), [] if control >> 0x11 & 1 else ["R 13"]
+    yield hx("00 11 FF 03"), ["R 13" if width == 32 or control else "R 14"]  # four octets without a map
+    if limit < LONGEST:
+        yield b"A" * (limit + width // 8 + 1), ["R 10"]
+
+
+def plain_delivery():
+    """A pair: what the plain sender writes comes through after a flag, whatever came before; also with removed octets put in."""
+    for limit, width, *_ in BOUNDS:
+        for control, marked in ((0, b""), (XON, hx("11")), (ALL, CONTROLS), (ALL, ALLOWED), (0, hx("5D FF 41"))):
+            name = f"limit {limit}, {width} bits, map {control:08X}, {len(marked)} marks"
+            packets = [hx("FF 03"), hx("7D 7E"), hx("11 00"), hx("5D 5D")] + [FLAG * limit] * (limit < 2048)
+            line = b"".join(ppp_line(data, width, marked) for data in packets)
+            reports = [packet_line(0, data) for data in packets]
+            yield (f"{name}: sent", lend(lent(width, limit)) + open_pair(3, width, limit, control, marks(marked))
+                   + b"".join(send_plain(data) for data in packets), [written(data, width, marked) for data in packets])
+            if 0xFF not in marked:
+                yield f"{name}: the first begins FF, to a receiver of COBS", receive(FLAG + line), reports
+            with_removed = b"".join(hx("11") + bytes((octet,)) for octet in line) if control else line
+            yield (f"{name}: after noise", b"".join(
+                receiver(width=width, limit=limit, mode=PLAIN, control=control) + receive(noise + FLAG) + receive(with_removed)
+                for noise, _ in noises(width, limit, control)),
+                [line for _, answers in noises(width, limit, control) for line in (*answers, *reports)])
+    yield "areas for 16 bits and 2,048", DEFAULT_LENGTHS, []
+
+
+PLAIN_TABLE = [
+    ("the start", plain_start),
+    ("slip 5's examples", plain_examples),
+    ("opening the receiver", plain_openings),
+    ("opening the pair, 19", pair_openings),
+    ("opening the pair, order", pair_orders),
+    ("plain sender", plain_sends),
+    ("plain sender, 2 and 1", exactly_long_enough),
+    ("plain sender, 3", plain_sender_states),
+    ("every first octet, reading on", plain_first_octet),
+    ("begun FF", begins_plain),
+    ("FF elsewhere", ff_not_first),
+    ("every octet in plain reading", every_plain_octet),
+    ("removed octets", removed_octets),
+    ("escapes", escapes),
+    ("at the flag", plain_reports),
+    ("13 and 14", short_and_damaged),
+    ("10 and 18", plain_too_much),
+    ("in bounds", plain_bounds),
+    ("held and resumed", plain_held),
+    ("what outlasts a flag", outlasts),
+    ("order of the call refusals", plain_orders),
+    ("a pair", plain_delivery),
+]
+
+
 # --- Small scripts: commands, and every line that they give. A script ends at `E`, so each such case has its own.
 LONG = 65535
 EXAMPLE = open_sender(3) + load_low(hx("00 00")) + next_octets(6)
@@ -2298,13 +3114,13 @@ SCRIPTS = {
         open_sender(3) + load_low(hx("41 42 43")) + next_octets(2) + D + load_high(hx("44 45")) + next_octets(1) + D
         + next_octets(14) + open_receiver(3) + receive(hx("06 41 7E")) + D + receive(hx("05 44 45 E8 3B 7E")) + D
         + receive(hx("D1 05 42 43 2F 9F")) + D + receive(FLAG) + D,
-        ["D", "O 06", "O 41", "S 3 5 1 0 0 4 1 1 0 0 16 2048", "T 0 0 0 0 0 0 0 0 0 0 16 2048 65535 0",
-         "D", "O 7E", "S 3 5 1 4 0 0 0 0 1 0 16 2048", "T 0 0 0 0 0 0 0 0 0 0 16 2048 65535 0",
+        ["D", "O 06", "O 41", "S 3 5 1 0 0 4 1 1 0 0 16 2048", "T 0 0 0 0 0 0 0 0 0 0 16 2048 65535 0 0 0 0",
+         "D", "O 7E", "S 3 5 1 4 0 0 0 0 1 0 16 2048", "T 0 0 0 0 0 0 0 0 0 0 16 2048 65535 0 0 0 0",
          "O 05", "O 44", "O 45", "O E8", "O 3B", "O 7E", "O D1", "O 05", "O 42", "O 43", "O 2F", "O 9F", "O 7E", "I",
          "H 1 0", "S 3 0 0 0 0 0 0 0 0 0 16 2048", told("3 1 0 2 0 0 0 0 0 0", held=b"A"),
          "P 1 2 44 45", "S 3 0 0 0 0 0 0 0 0 0 16 2048", told("3 1 0 2 0 0 0 0 0 0", held=b"A"),
-         "S 3 0 0 0 0 0 0 0 0 0 16 2048", "T 3 0 6 0 0 0 2 1 1 0 16 2048 65535 0",
-         "P 0 3 41 42 43", "S 3 0 0 0 0 0 0 0 0 0 16 2048", "T 3 0 0 0 0 0 0 0 0 0 16 2048 65535 0"]),
+         "S 3 0 0 0 0 0 0 0 0 0 16 2048", "T 3 0 6 0 0 0 2 1 1 0 16 2048 65535 0 0 0 0",
+         "P 0 3 41 42 43", "S 3 0 0 0 0 0 0 0 0 0 16 2048", "T 3 0 0 0 0 0 0 0 0 0 16 2048 65535 0 0 0 0"]),
     # The operands of an unknown command are not known either: nothing behind it is carried out.
     "unknown": (EXAMPLE + b"?" + D, ["D", "O E0", "O 03", "O 47", "O 0F", "O 7E", "I", "E"]),
     "unknown-octet": (b"\x80", ["E"]),
@@ -2313,18 +3129,23 @@ SCRIPTS = {
     "cut-packet": (open_sender(3) + load_low(hx("41 42 43"))[:-1], ["E"]),
     "cut-line": (open_receiver(3) + receive(hx("05 31 7E 7E"))[:-1], ["E"]),
     "cut-opening": (open_sender(3, 32) + D + open_sender(3, 32)[:-1],
-                    ["S 3 0 0 0 0 0 0 0 0 0 32 2048", "T 0 0 0 0 0 0 0 0 0 0 16 2048 65535 0", "E"]),
+                    ["S 3 0 0 0 0 0 0 0 0 0 32 2048", "T 0 0 0 0 0 0 0 0 0 0 16 2048 65535 0 0 0 0", "E"]),
     "cut-state": (hand_sender((3,) * 12)[:-1], ["E"]),
-    "cut-register": (hand_receiver((3,) * 13), ["E"]),
+    "cut-register": (hand_receiver((3,) * 14)[:-8], ["E"]),
+    "cut-map": (hand_receiver((3,) * 17)[:-1], ["E"]),
+    "cut-reading": (open_receiver(3)[:-1], ["E"]),
+    "cut-pair": (open_pair(3)[:-1], ["E"]),
+    "cut-marks": (hand_plain_sender(16, 2048, marks(b""))[:-1], ["E"]),
+    "cut-plain": (send_plain(hx("41 42")) + send_plain(hx("41 42"))[:-1], ["W 5 41 42 EF 31 7E", "E"]),
     "cut-show": (show(0, 0, 1)[:-1], ["E"]),
     "cut-letter": (D + b"A", [*FRESH, "E"]),
     # Counts as large as they can be.
     "long-operands": (
         lend((LONG,) * 4) + lend_out(LONG) + fill(0, 0, hx("A5") * LONG) + show(0, 20478, LONG) + show(1, 0, 2)
         + load_low(hx("31") * LONG) + D + open_receiver(3) + receive(hx("D3 7E") + FLAG * (LONG - 4) + hx("D2 7E")) + D
-        + next_octets(LONG) + show(OUT_AREA, 0, 3) + show(OUT_AREA, 40958, LONG),
-        ["X A5 A5", "X 00 00", "R 1", *FRESH, "R 13", "R 7", FRESH[0], "T 3 0 0 0 0 0 0 0 0 0 16 2048 65535 0", *["I"] * LONG,
-         "X 00 00 00", "X 00 00"]),
+        + next_octets(LONG) + send_plain(hx("41") * LONG) + show(OUT_AREA, 0, 3) + show(OUT_AREA, 40958, LONG),
+        ["X A5 A5", "X 00 00", "R 1", *FRESH, "R 13", "R 7", FRESH[0], "T 3 0 0 0 0 0 0 0 0 0 16 2048 65535 0 0 0 0", *["I"] * LONG,
+         "R 2", "X 00 00 00", "X 00 00"]),
 }
 
 
@@ -2355,6 +3176,8 @@ def write_captures(programs, folder):
     for name, make in CAPTURES.items():
         data = make(programs)
         lines, counts = programs.of_model("capture", data), programs.of_model("count", data)
+        if CAPTURE_LINES.get(name, lines.decode()) != lines.decode():
+            sys.exit(f"the capture {name} is not read as asked")
         for ending, octets in ((".octets", data), (".lines", lines), (".counts", counts)):
             write(os.path.join(folder, name + ending), octets)
         seen = ", ".join(line for line in counts.decode().splitlines() if not line.endswith(" 0"))
@@ -2383,7 +3206,7 @@ def table_script(programs, label, groups, explain):
 def write_scripts(programs, folder, explain):
     scripts, wrong = {}, 0
     for name, groups in (("base", BASE), ("width", WIDTH_TABLE), ("limit", LIMIT_TABLE), ("restart", RESTART_TABLE),
-                         ("areas", AREAS_TABLE)):
+                         ("areas", AREAS_TABLE), ("plain", PLAIN_TABLE)):
         scripts[name], faults = table_script(programs, name, groups, explain)
         wrong += faults
     for name, (commands, asked) in SCRIPTS.items():

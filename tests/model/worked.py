@@ -1,5 +1,5 @@
-"""The worked examples of document 01, and examples of slips 1, 11, 4 and 8 of document 02, held against
-model.rs:
+"""The worked examples of document 01, and examples of slips 1, 11, 4, 8 and 5 of document 02, held
+against model.rs:
 
     python3 worked.py MODEL
 """
@@ -7,7 +7,8 @@ import subprocess
 import sys
 import zlib
 
-from compare import fcs, fill, halves, hand_receiver, lend, lent, open_receiver, open_sender, register_over
+from compare import (fcs, fill, halves, hand_plain_sender, hand_receiver, lend, lend_out, lent, marks, open_pair, open_receiver,
+                     open_sender, register_over, send_plain, show, stuffed)
 
 MODEL = sys.argv[1]
 
@@ -52,8 +53,9 @@ def sent(settings, packet, width=16, limit=2048):
     return " ".join(octets)
 
 
-def received(settings, octets, width=16, limit=2048):
-    return run("exercise", lend(lent(width, limit)) + open_receiver(settings, width, limit) + b"r" + octs(octets)).splitlines()
+def received(settings, octets, width=16, limit=2048, plain=0, control=0):
+    return run("exercise", lend(lent(width, limit)) + open_receiver(settings, width, limit, plain, control) + b"r"
+               + octs(octets)).splitlines()
 
 
 # Check sequence
@@ -76,7 +78,7 @@ CAPTURE = hx("0C 31 32 33 7E 0C 31 32 33 34 35 36 37 38 39 6E 90 7E D1 09 34 35 
 check("(e)", run("capture", CAPTURE),
       "H 3 0\nP 9 31 32 33 34 35 36 37 38 39\nP 9 31 32 33 34 35 36 37 38 39\nR 13\n")
 check("(e) counted", run("count", CAPTURE),
-      "packets 2\nheld 1\nheld-replaced 0\n" + "".join(f"refused-{n} {int(n == 13)}\n" for n in (*range(5, 15), 21)))
+      "packets 2\nheld 1\nheld-replaced 0\n" + "".join(f"refused-{n} {int(n == 13)}\n" for n in (*range(5, 15), 18, 21)))
 check("(f)", run("capture", hx("7E7E")), "")
 check("(g)", run("capture", hx("05 31 7E 05 32 7E")), "H 1 0\nH 1 1\n")
 check("(h) DB", run("capture", hx("DF") * 136 + hx("DB 7E")), "R 14\n")
@@ -95,7 +97,7 @@ check("3", run("exercise", b"s" + num(0) + num(300) + num(0) * 3 + num(208) + nu
 check("3, 207 is none", run("exercise", b"s" + num(0) + num(300) + num(0) * 3 + num(207) + num(0) + num(1)
                             + num(0) * 2 + num(16) + num(2048) + b"n" + num(1)), "O 00\n")
 check("3, receiver", run("exercise", b"t" + num(0) * 4 + num(208) + num(0) + num(2) + num(1) + num(0) * 2 + num(16)
-                         + num(2048) + num(0xFFFF) + num(0) + b"r" + octs(hx("31"))), "R 3\n")
+                         + num(2048) + num(0xFFFF) + num(0) * 4 + b"r" + octs(hx("31"))), "R 3\n")
 check("4", run("exercise", (b"l" + octs(hx("3132"))) * 2), "D\nR 4\n")
 for number, settings, octets in [
     (5, 3, hx("FF 03 C0 21 7E")), (6, 0, hx("E0 7E")), (7, 3, hx("D2 7E")), (8, 3, hx("D1 01 7E")),
@@ -164,7 +166,8 @@ check("slip 11: limit 2, loads", loaded(2, (2, 3), (3, 4), (2, 4)), ["R 2", "R 1
 check("slip 11: limit 16,384, loads", loaded(16384, (16384, 16385), (16385, 16386), (16384, 16386)), ["R 2", "R 1", "D"])
 check("slip 11: limit 1, a load of 1, an area of 0",
       run("exercise", b"a" + num(0) * 4 + b"s" + num(0) * 10 + num(16) + num(1) + b"l" + octs(hx("31"))), "R 3\n")
-for octets, report in ((hx("05 41 42 EF 31"), "P 0 2 41 42"), (hx("06 41 42 43 2F 9F"), "R 10"), (hx("D5"), "R 14"), (hx("D6"), "R 10")):
+for octets, report in ((hx("05 41 42 EF 31"), "P 0 2 41 42"), (hx("06 41 42 43 2F 9F"), "R 10"), (hx("D5"), "R 14"),
+                       (hx("D6"), "R 10")):
     check(f"slip 11: limit 2, {octets.hex(' ')} 7E", received(3, octets + hx("7E"), 16, 2), [report])
 for width, most in ((16, 16387), (32, 16389)):
     zeros = hx("DF") * 1092
@@ -177,14 +180,15 @@ check("slip 11: captures keep 2,048", run("capture", hx("DF") * 136 + hx("DC 7E"
 check("slip 4: 05 31, FF 03, D1 01", received(3, hx("05 31 7E FF 03 7E D1 01 7E")), ["H 1 0", "R 5", "R 8"])
 check("slip 4: 05 31, D2, D1 01", received(3, hx("05 31 7E D2 7E D1 01 7E")), ["H 1 0", "R 7", "R 13"])
 check("slip 4: 05 31, FF", run("exercise", open_receiver(3) + b"r" + octs(hx("05 31 7E FF")) + b"d").splitlines()[::2],
-      ["H 1 0", "T 3 1 0 0 0 0 0 1 0 5 16 2048 65535 0"])
+      ["H 1 0", "T 3 1 0 0 0 0 0 1 0 5 16 2048 65535 0 0 0 0"])
 for number, held, report in ((5, 2, "R 3"), (5, 1, "R 3"), (5, 0, "R 5"), *((n, 2, f"R {n}") for n in range(6, 11))):
     check(f"slip 4: in a frame, refusal {number}, held {held - 1 if held else 'none'}", run(
-        "exercise", hand_receiver((3, 0, 0, held, 0, 0, 0, 1, 0, number, 16, 2048, 0xFFFF, 0)) + b"r" + octs(hx("7E"))), report + "\n")
-check("slip 4: a packet suspended, a restart, its rest", run("capture", hx("06 41 7E FF 03 C0 21 7E D1 05 42 43 2F 9F 7E")),
-      "H 1 0\nR 5\nR 8\n")
-check("slip 4: then once more", run("capture", hx("06 41 7E FF 03 C0 21 7E 06 41 7E D1 05 42 43 2F 9F 7E")),
-      "H 1 0\nR 5\nH 1 0\nP 3 41 42 43\n")
+        "exercise", hand_receiver((3, 0, 0, held, 0, 0, 0, 1, 0, number, 16, 2048, 0xFFFF, 0)) + b"r" + octs(hx("7E"))), report
+          + "\n")
+check("slip 4: a packet suspended, a restart, its rest", received(3, hx("06 41 7E FF 03 C0 21 7E D1 05 42 43 2F 9F 7E")),
+      ["H 1 0", "R 5", "R 8"])
+check("slip 4: then once more", received(3, hx("06 41 7E FF 03 C0 21 7E 06 41 7E D1 05 42 43 2F 9F 7E")),
+      ["H 1 0", "R 5", "H 1 0", "P 1 3 41 42 43"])
 
 # Slip 8, areas changed behind the receiver's back
 def told(*commands, width=16):
@@ -198,7 +202,7 @@ def r(text):
 
 
 for width, register in ((16, 0x4D53), (32, 0xB0ACBB32)):
-    held, fresh = (" ".join(map(str, (width, 2048, *halves(n)))) for n in (register, 2 ** width - 1))
+    held, fresh = (" ".join(map(str, (width, 2048, *halves(n), 0, 0, 0))) for n in (register, 2 ** width - 1))
     kept = f"T 3 1 0 3 0 0 0 0 0 0 {held}"
     check(f"slip 8: register of 31 32, {width} bits", register_over(b"12", width), register)
     check(f"slip 8: 05 31 32, {width} bits", told(r("05 31 32 7E"), b"d", width=width), ["H 2 0", kept])
@@ -221,8 +225,79 @@ check("slip 8: no octet held, register 1234, D1", handed(3, 1, 0x1234, "D1 7E"),
 check("slip 8: no octet held, register FFFF, D1", handed(3, 1, 0xFFFF, "D1 7E"), ["R 9"])
 check("slip 8: nothing held, register 1234", handed(3, 0, 0x1234, "7E 31 D1 FF"), ["R 3"] * 4)
 check("slip 8: 1 held, register 10000", handed(3, 2, 0x10000, "7E 31 D1 FF"), ["R 3"] * 4)
-check("slip 8: settings 01, 1 held, D1", handed(1, 2, 0x1234, "D1 7E", b"d"), ["R 6", "T 1 0 0 0 0 0 0 0 0 0 16 2048 65535 0"])
+check("slip 8: settings 01, 1 held, D1", handed(1, 2, 0x1234, "D1 7E", b"d"),
+      ["R 6", "T 1 0 0 0 0 0 0 0 0 0 16 2048 65535 0 0 0 0"])
 check("slip 8: no 21 in captures", run("count", CAPTURE + hx("05 31 7E D1 7E")).splitlines()[-1], "refused-21 0")
+
+# Slip 5, plain PPP: 16 bits, packets to 2,048, settings 03
+LCP = hx("FF 03 C0 21 01 01 00 04")
+LINE = hx("FF 03 C0 21 01 01 00 04 D1 B5 7E")
+CONTROLS = bytes(range(0x20))
+
+
+def plain_sent(packet, marked=b"", control=0):
+    """What the plain sender of a pair writes for a packet, and that the receiver of the pair reads it so."""
+    out = run("exercise", open_pair(3, control=control, sending=marks(marked)) + send_plain(packet)).strip()
+    letter, length, *octets = out.split()
+    line = hx("".join(octets))
+    assert letter == "W" and int(length) == len(line), out
+    back = run("exercise", open_pair(3, control=control, sending=marks(marked))
+               + hand_receiver((3, *[0] * 9, 16, 2048, 0xFFFF, 0, 2, *halves(control))) + b"r" + octs(line))
+    check(f"slip 5: {packet[:8].hex(' ')} and back", back, f"P 0 {len(packet)}" + "".join(f" {o:02X}" for o in packet) + "\n")
+    return line
+
+
+def on(text, control=0):
+    """The reports of a receiver opened with plain reading on."""
+    return received(3, hx(text), plain=1, control=control)
+
+
+def opened(width, limit, control, marked):
+    return run("exercise", open_pair(3, width, limit, control, marks(marked))).split()
+
+
+check("slip 5: an LCP packet sent, empty maps", plain_sent(LCP), LINE)
+check("slip 5: the same, 00 to 1F marked", plain_sent(LCP, CONTROLS),
+      hx("FF 7D 23 C0 21 7D 21 7D 21 7D 20 7D 24 D1 B5 7E"))
+check("slip 5: the first, reading off", received(3, LINE), ["R 5"])
+check("slip 5: the first, reading on", received(3, LINE, plain=1), ["P 0 8 FF 03 C0 21 01 01 00 04"])
+check("slip 5: the first, map FFFFFFFF", received(3, LINE, plain=1, control=0xFFFFFFFF), ["R 14"])
+check("slip 5: FF, 7D", on("FF 7E 7D 7E"), ["R 13", "R 18"])
+check("slip 5: FF 7D", on("FF 7D 7E"), ["R 18"])
+check("slip 5: FF, 11 11, with map", on("FF 7E 11 11 7E", 1 << 0x11), ["R 13"])
+check("slip 5: FF, 11 11, without", on("FF 7E 11 11 7E"), ["R 13", "R 13"])
+check("slip 5: FF, 7D 11, with map", on("FF 7E 7D 11 7E", 1 << 0x11), ["R 13", "R 18"])
+check("slip 5: FF, 7D 11 5E 41 1E 36, with map", on("FF 7E 7D 11 5E 41 1E 36 7E", 1 << 0x11), ["R 13", "P 0 2 7E 41"])
+check("slip 5: 5D marked", plain_sent(hx("5D 7D 7E 5E"), hx("5D")), hx("7D 7D 7D 5D 7D 5E 5E CF 0C 7E"))
+for length, report in ((2048, "P 0 2048" + " 41" * 2048), (2049, "R 10")):
+    whole = b"A" * length
+    check(f"slip 5: {length} octets of 41", received(3, hx("FF 7E") + stuffed(whole + fcs(whole)) + hx("7E"), plain=1),
+          ["R 13", report])
+for more, report in (("7D 7E", "R 18"), ("7D 41 7E", "R 10"), ("41 7D 7E", "R 10")):
+    check(f"slip 5: 2,050 octets, then {more}", received(3, hx("FF 7E") + b"A" * 2050 + hx(more), plain=1), ["R 13", report])
+check("slip 5: 05 31, FF 03", run("exercise", open_receiver(3, plain=1) + b"r" + octs(hx("05 31 7E FF 03 7E")) + b"d").splitlines(),
+      ["H 1 0", "R 13", "S 0 0 0 0 0 0 0 0 0 0 16 2048", "T 3 1 0 0 0 0 0 0 0 0 16 2048 65535 0 2 0 0"])
+check("slip 5: FF, a COBS frame of 31 to 39", on("FF 7E 0C 31 32 33 34 35 36 37 38 39 6E 90 7E"), ["R 13", "R 14"])
+for name, answers, given in (
+    ("width 24, limit 1", ["R", "23"], (24, 1, 0, b"")), ("width 24", ["R", "3"], (24, 2048, 0, b"")),
+    ("a mark lacking", ["R", "19"], (16, 2048, 1, b"")), ("5E", ["R", "19"], (16, 2048, 0, hx("5E"))),
+    ("20", ["R", "19"], (16, 2048, 0, hx("20"))), ("3F", ["R", "19"], (16, 2048, 0, hx("3F"))),
+    ("40, 5D, FF", [], (16, 2048, 0, hx("40 5D FF"))),
+):
+    check(f"slip 5: a pair, {name}", opened(*given), answers)
+check("slip 5: areas of 3 and 4 for 41, of 4 and 5 for 41 42", run("exercise", b"".join(
+    lend_out(length) + send_plain(packet) for packet, length in ((b"A", 3), (b"A", 4), (b"AB", 4), (b"AB", 5)))),
+    "R 2\nR 1\nR 2\nW 5 41 42 EF 31 7E\n")
+check("slip 5: marks handed in without 7D, 7E; with 5E", run("exercise", b"".join(
+    hand_plain_sender(16, 2048, marks(marked)) + send_plain(b"AB")
+    for marked in (b"", hx("7D"), hx("7E"), hx("7D 7E"), hx("5E 7D 7E")))),
+    "R 3\nR 3\nR 3\nW 5 41 42 EF 31 7E\nR 3\n")
+check("slip 5: a refused w writes nothing", run("exercise", b"f\x04" + num(0) + octs(b"1234") + lend_out(4) + send_plain(b"AB")
+                                               + send_plain(b"A") + show(4, 0, 6)), "R 2\nR 1\nX 31 32 33 34 00 00\n")
+check("slip 5: captures read plain", run("capture", hx("FF 03 C0 21 7E") + LINE), "R 14\nP 8 FF 03 C0 21 01 01 00 04\n")
+check("slip 5: counted", run("count", hx("FF 03 C0 21 7E 7D 7E") + LINE),
+      "packets 1\nheld 0\nheld-replaced 0\n" + "".join(
+          f"refused-{n} {int(n in (14, 18))}\n" for n in (*range(5, 15), 18, 21)))
 
 # Length bound: n + 1 + floor(n / 207) octets before the flag
 LENGTHS = (2, 201, 202, 203, 204, 205, 206, 410, 411, 412, 2046, 2047, 2048)
@@ -243,6 +318,7 @@ print("bounds and ways back done")
 out = run("exercise", open_sender(3) + b"l" + octs(hx("00 00 00 31 32 33 34 35")) + b"n" + num(1) + b"h" + octs(hx("4142"))
           + b"n" + num(2 + 6 + 1) + b"h" + octs(hx("4344")) + b"n" + num(2 + 6) + b"n" + num(11))
 octets = bytes.fromhex("".join(line[2:] for line in out.splitlines() if line[0] == "O"))
-check("cut between blocks, and after D1", run("capture", octets), "H 3 0\nP 2 41 42\nH 3 0\nP 2 43 44\nP 8 00 00 00 31 32 33 34 35\n")
+check("cut between blocks, and after D1", run("capture", octets),
+      "H 3 0\nP 2 41 42\nH 3 0\nP 2 43 44\nP 8 00 00 00 31 32 33 34 35\n")
 
 sys.exit(failures != 0)

@@ -5,11 +5,13 @@ ghost use Prim.Native.Nat.{_≤_};
 ghost use lib.ListN.{length};
 ghost use Rattle.link.specs.Receiver.{openedReceiver};
 ghost use Rattle.link.specs.declared.receiver.Opening.the-variants.{Opened};
+ghost use Rattle.link.specs.declared.receiver.PlainReading.the-variants.{On};
 ghost use Rattle.transcript.specs.Transcript.{longestLine};
 use files::Output;
 use libc::STDOUT_FILENO;
 use link::Settings;
 use link::receiver::Opening;
+use link::receiver::PlainReading;
 use link::receiver::Receiver;
 
 fn main() {
@@ -35,15 +37,17 @@ fn capture(number: usize, output: Output) -> Output {
     after
 }
 
-// A receiver with document 01's settings, ZXE and PRE on. By its contract the opening is not refused.
+// A receiver with document 01's settings, ZXE and PRE on, and with plain reading on, its map empty (document 02, slip 5). By its contract the
+// opening is not refused.
 fn opened() -> Opening
-    ensures { λ r. ⌜ r ≡ Opened (openedReceiver (record { octet = 3; width = 16; limit = 2048 })) ⌝ }
+    ensures { λ r. ⌜ r ≡ Opened (openedReceiver (record { octet = 3; width = 16; limit = 2048 }) (On 0)) ⌝ }
 {
-    link::receiver::open(Settings {
+    let settings = Settings {
         octet: 3,
         width: 16,
         limit: 2048,
-    })
+    };
+    link::receiver::open(settings, PlainReading::On(0))
 }
 
 // The lines of a capture, from its first octet to its last.

@@ -82,3 +82,17 @@ pub chosen-at : (zxe : Bool) (f : List ℕ) (pos : ℕ) → pos ≤ length f
     → Stands zxe (drop pos (withPhantom f)) (choice zxe (drop pos (withPhantom f)))
 chosen-at zxe f pos h =
     chosen zxe (drop pos (withPhantom f)) (omega (arith, length-drop pos (withPhantom f), long f)) (ends-drop (withPhantom f) (ends f) pos)
+
+-- no code that is chosen is FF
+pub code-below : (zxe : Bool) (rest : List ℕ) → choice zxe rest .code < 0xFF
+unfolding choice
+code-below zxe rest =
+    let z = leadingZeros 15 rest in
+    let k = leadingNonzeros 207 rest in
+    let P : Choice → Type 0 = λ c. c .code < 0xFF in
+    let two = eqb (leadingZeros 2 (drop k rest)) 2 in
+    branch P (zxe && leb 3 z) (λ _. omega (arith, at-most isZero 15 rest))
+    (λ _. branch P (eqb k 207) (λ _. omega arith)
+    (λ e. branch P (zxe && leb k 30 && two)
+    (λ p. omega (arith, leb-true k 30 (and-right zxe (leb k 30) (and-left (zxe && leb k 30) two p))))
+    (λ _. omega (arith, at-most isNonzero 207 rest, eqb-false k 207 e))))

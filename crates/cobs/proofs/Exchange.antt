@@ -25,3 +25,15 @@ module _ (x : ℕ) (some : x ≡ 0 → ⊥) where
   pub turned-back : fromLine (toLine x) ≡ x
   unfolding toLine fromLine
   turned-back = branch (λ y. (if eqb y 0 then flag else y) ≡ x) (eqb x flag) (λ e. sym (eqb-true x flag e)) (λ e. rw (ne-eqb x 0 some))
+
+-- what is turned back to anything but 7E was that octet
+pub from-other : (x y : ℕ) → fromLine x ≡ y → (y ≡ flag → ⊥) → x ≡ y
+unfolding fromLine
+from-other x y =
+    branch (λ z. z ≡ y → (y ≡ flag → ⊥) → x ≡ y) (eqb x 0) (λ _ e other. absurd (other (sym e))) (λ _ e other. e)
+
+-- and so of what is sent as anything but 00
+pub to-other : (x y : ℕ) → toLine x ≡ y → (y ≡ 0 → ⊥) → x ≡ y
+unfolding toLine
+to-other x y =
+    branch (λ z. z ≡ y → (y ≡ 0 → ⊥) → x ≡ y) (eqb x flag) (λ _ e other. absurd (other (sym e))) (λ _ e other. e)

@@ -1,12 +1,14 @@
-// Counts the reports of a capture: raw octets of a line, at its end the tally's fourteen counts on standard output, a line each. Each file that it is called
+// Counts the reports of a capture: raw octets of a line, at its end the tally's fifteen counts on standard output, a line each. Each file that it is called
 // with is a capture of its own. It reads with document 01's settings, as the capture reader does.
 ghost use mathlib.Core.Path.{_≡_};
 ghost use Rattle.link.specs.Receiver.{openedReceiver};
 ghost use Rattle.link.specs.declared.receiver.Opening.the-variants.{Opened};
+ghost use Rattle.link.specs.declared.receiver.PlainReading.the-variants.{On};
 use files::Output;
 use libc::STDOUT_FILENO;
 use link::Settings;
 use link::receiver::Opening;
+use link::receiver::PlainReading;
 use tally::Tally;
 
 fn main() {
@@ -39,15 +41,17 @@ fn capture(number: usize, output: Output) -> Output {
     after
 }
 
-// A receiver with document 01's settings, ZXE and PRE on. By its contract the opening is not refused.
+// A receiver with document 01's settings, ZXE and PRE on, and with plain reading on, its map empty (document 02, slip 5). By its contract the
+// opening is not refused.
 fn opened() -> Opening
-    ensures { λ r. ⌜ r ≡ Opened (openedReceiver (record { octet = 3; width = 16; limit = 2048 })) ⌝ }
+    ensures { λ r. ⌜ r ≡ Opened (openedReceiver (record { octet = 3; width = 16; limit = 2048 }) (On 0)) ⌝ }
 {
-    link::receiver::open(Settings {
+    let settings = Settings {
         octet: 3,
         width: 16,
         limit: 2048,
-    })
+    };
+    link::receiver::open(settings, PlainReading::On(0))
 }
 
 // A capture's counts. read: it could be read, at least in part.

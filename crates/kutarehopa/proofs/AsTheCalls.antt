@@ -2,14 +2,18 @@
 use mathlib.Core.Path.{_≡_, refl, sym, ap, subst, _∙_}
 use mathlib.Core.Bool.{Bool, true, false, not, _||_}
 use mathlib.Core.List.{List, [], _∷_, _++_, map}
-use Prim.Native.Nat.{ℕ, _-_, _<_}
+use Prim.Native.Nat.{ℕ, _<_}
 use native.Mathlib.Omega.{arith}
-use borrow.Author.Tests.{eqb-true, eqb-false, ne-eqb, lt-leb, leb-false}
+use borrow.Author.Tests.{eqb-true, eqb-false, ne-eqb, ltb-false, ltb-true, lt-leb, leb-false}
 use lib.Dec.{ltb, eqb}
-use lib.ListN.{length, drop}
+use lib.ListN.{length, drop, length-set}
 use lib.Seq.{take-append-seam, drop-append-seam}
 use Rattle.fcs.specs.Notation.{if_then_else_}
 use Rattle.cobs.proofs.Tests.{branch, decide, true-false, false-true}
+use Rattle.plain.specs.declared.Sent.{Sent}
+use Rattle.plain.specs.declared.Sent.the-variants.{Written as writtenSend, Refused as refusedSend}
+use Rattle.plain.specs.Maps.{marked, marking, withFraming, marksOk}
+use Rattle.plain.specs.Stuffing.{Send}
 use Rattle.link.specs.declared.Settings.{Settings}
 use Rattle.link.specs.declared.sender.Opening.{Opening as SenderOpening}
 use Rattle.link.specs.declared.sender.Opening.the-variants.{Opened as OpenedSender, Refused as SenderRefused}
@@ -25,6 +29,9 @@ use Rattle.link.specs.Sender.{SenderEnd, Out, closes, breaksOff, sends, sendsNo
 use Rattle.link.specs.Sender as sender
 use Rattle.link.specs.Receiver.{ReceiverEnd, Receive, receive}
 use Rattle.link.specs.Receiver as receiver
+use Rattle.link.specs.declared.plain_sender.PlainSender.{PlainSender}
+use Rattle.link.specs.PlainSender.{plainAgreed, plainLine, plainSend}
+use Rattle.link.specs.PlainSender as plain
 use Rattle.link.specs.ReceiverParts.{ReceiverReady}
 use Rattle.link.specs.Runs.{SenderCall, loading, nextOctet, Station, afterLoad, afterNext, senderAnswers, receives}
 use Rattle.link.proofs.Within.{refuses-frames}
@@ -32,19 +39,21 @@ use Rattle.link.proofs.ReadOn.{after-quiet}
 use Rattle.link.proofs.ReceiverCases.{not-valid, too-short, out-of-bounds}
 use Rattle.link.proofs.SenderBounds.{load-answers, load-invalid, load-short, load-out-of-bounds, next-invalid, next-short, next-out-of-bounds}
 use Rattle.link.proofs.EachCall.{valid-first, refused-changes-nothing, idle-changes-nothing}
+use Rattle.link.proofs.PlainPair.{plain-sends, pair-opens}
 use Rattle.reader.specs.Reading.{Reach, readOn}
 use Rattle.reader.proofs.Steps.{from-quiet, at-report, begins, ends}
 use Rattle.reader.proofs.NothingLost.{is-quiet}
 use Rattle.writer.specs.Pieces.{inPieces, afterLoading, afterPiece}
 use Rattle.writer.specs.Writing.{Wrote, Filled, writesNothing, writeOn, onto}
 use Rattle.writer.proofs.Steps.{no-room, no-octet, none-written}
-use Rattle.kutarehopa.specs.Numbers.{number, value}
-use Rattle.kutarehopa.specs.Layout.{settingsIn, spellReceiver, receiverIn, receiverOctets, spellSender, senderIn, senderOctets, over}
-use Rattle.kutarehopa.specs.Calls.{shortForReceiver, shortForSender, noState, taken, changes, received, receiverAfter, ReceiveCall, receiveCall, readTo, ReadCall, readCall, loaded, senderAfter, LoadCall, loadCall, sent, NextCall, nextCall, wrote, WriteCall, writeCall, receiverOpened, senderOpened, openReceiver, openSender}
+use Rattle.kutarehopa.specs.Numbers.{number, value, sentNumber}
+use Rattle.kutarehopa.specs.Layout.{settingsIn, spellReceiver, receiverIn, receiverOctets, spellSender, senderIn, senderOctets, spellPlainSender, plainSenderIn, plainSenderOctets, over}
+use Rattle.kutarehopa.specs.Calls.{shortForReceiver, shortForSender, noState, taken, changes, received, receiverAfter, ReceiveCall, receiveCall, readTo, ReadCall, readCall, loaded, senderAfter, LoadCall, loadCall, sent, NextCall, nextCall, wrote, WriteCall, writeCall, receiverOpened, senderOpened, pairOpened, openReceiver, openSender, openPair, noPlainSender, PlainCall, plainSent, plainSendCall}
+use Rattle.kutarehopa.specs.Spelling.{plainSenderPart}
 use Rattle.kutarehopa.specs.AsTheCalls.{receiveInOctets, readInOctets, loadInOctets, nextInOctets, lastAnswer, writeInOctets, OnPackedStates, receiveCalls, SenderMemory, senderNumbers, readCalls, readings, LineStep, loadsPacket, writesLine, octetsOnLines, programStep, RunsAsLink, OpenedIsPacked, AsPackedAgain, NoCallMade, RefusedLeavesAll, NoOctetNoChange, NoStateIsOutOfBounds, RestStays}
 use Rattle.kutarehopa.proofs.Numbers.{reports-have-numbers, small-refused}
-use Rattle.kutarehopa.proofs.Spelling.{packed-spells-itself}
-use Rattle.kutarehopa.proofs.Calls.{no-receiver, a-receiver, no-reader, a-reader, reads-nothing, no-loader, a-loader, no-sender, a-sender, no-writer, a-writer, writes-nothing}
+use Rattle.kutarehopa.proofs.Spelling.{from-length, packed-spells-itself, looks-nowhere-else}
+use Rattle.kutarehopa.proofs.Calls.{no-receiver, a-receiver, no-reader, a-reader, reads-nothing, no-loader, a-loader, no-sender, a-sender, no-writer, a-writer, writes-nothing, not-plain-sender, a-plain-sender}
 
 -- ---- octets over octets
 
@@ -205,6 +214,11 @@ module _ (s : Sender) (m low high : List ℕ) where
       ∙ ap (λ (u : Sender). let e : SenderEnd = record { state = u; low = low; high = high } in wrote (over (senderOctets s) m) (seen (next e) .answer) (onto (x ∷ xs) (writeOn (length (x ∷ xs)) e))) (q .1)
       ∙ wrote-packed (x ∷ xs) room _ refl
 
+plain-packed : (s : PlainSender) (m p area : List ℕ) → length (s .marks) ≡ 32 → plainSendCall (over (plainSenderOctets s) m) p area ≡ plainSent (plainSend s p area)
+plain-packed s m p area full =
+    let q = packed-spells-itself .plainSender s m full in
+    a-plain-sender (over (plainSenderOctets s) m) p area (q .0) ∙ ap (λ (u : PlainSender). plainSent (plainSend u p area)) (q .1)
+
 pub on-packed-states : OnPackedStates
 on-packed-states =
     record {
@@ -213,6 +227,7 @@ on-packed-states =
       load = load-packed;
       next = next-packed;
       write = write-packed;
+      plainSend = plain-packed;
     }
 
 -- ---- call after call
@@ -264,14 +279,32 @@ runs-as-link =
       lines = lines-run;
     }
 
+-- a pair, by what link's opening of it answers
+pair-by : (m o : List ℕ) (settings : Settings) (map : ℕ) (marks : List ℕ) (a : ReceiverOpening) → plain.openPair settings map marks .receiver ≡ a
+    → openPair m o settings map marks ≡ pairOpened m o (plain.openedPlainSender settings marks) a
+unfolding openPair
+pair-by m o settings map marks a = ap (pairOpened m o (plain.openedPlainSender settings marks))
+
+-- one mark more, and the two of the framing: as many octets
+marking-length : (x : ℕ) (marks : List ℕ) → length (marking x marks) ≡ length marks
+unfolding marking
+marking-length x marks = branch (λ (l : List ℕ). length l ≡ length marks) (marked marks x) (λ _. refl) (λ _. length-set marks _ _)
+
+framing-length : (marks : List ℕ) → length (withFraming marks) ≡ length marks
+unfolding withFraming
+framing-length marks = marking-length _ (marking _ marks) ∙ marking-length _ marks
+
 pub opened-is-packed : OpenedIsPacked
 unfolding openReceiver openSender
 opened-is-packed =
     record {
-      receiver = λ m settings v. ap (receiverOpened m) (valid-first .receiverOpens settings v);
+      receiver = λ m settings reading v. ap (receiverOpened m) (valid-first .receiverOpens settings reading v);
       sender = λ m settings v. ap (senderOpened m) (valid-first .senderOpens settings v);
-      noReceiver = λ m settings n. ap (receiverOpened m);
+      pair = λ m o settings map marks v r. pair-by m o settings map marks _ (pair-opens .opens settings map marks v r);
+      noReceiver = λ m settings reading n. ap (receiverOpened m);
       noSender = λ m settings n. ap (senderOpened m);
+      noPair = λ m o settings map marks n. pair-by m o settings map marks (ReceiverRefused n);
+      marks = λ settings marks full. framing-length marks ∙ full;
     }
 
 -- ---- octets that spell a state
@@ -333,6 +366,13 @@ module _ (m : List ℕ) (s : spellSender m ≡ true) (lowArea highArea : List �
       subst (λ (h : WriteCall). SameWriting h packed) (sym (a-writer m lowArea highArea s (x ∷ line) room))
       (subst (SameWriting (wrote m (seen (next spelled) .answer) t)) (sym (write-packed (senderIn m) m lowArea highArea (x ∷ line))) (same-writing (x ∷ line) room t _ refl))
 
+marks-length : (m : List ℕ) → length (plainSenderIn m .marks) ≡ 32
+unfolding plainSenderIn
+marks-length m = from-length m 4 32
+
+again-plain : (m : List ℕ) → spellPlainSender m ≡ true → (p area : List ℕ) → plainSendCall m p area ≡ plainSendCall (over (plainSenderOctets (plainSenderIn m)) m) p area
+again-plain m s p area = a-plain-sender m p area s ∙ sym (plain-packed (plainSenderIn m) m p area (marks-length m))
+
 pub as-packed-again : AsPackedAgain
 as-packed-again =
     record {
@@ -341,6 +381,7 @@ as-packed-again =
       load = again-load;
       next = again-next;
       write = again-write;
+      plainSend = again-plain;
     }
 
 pub no-call-made : NoCallMade
@@ -394,6 +435,25 @@ module _ (n : ℕ) (few : n < 5) where
       (λ s.
       let a = no-loader l m p area s in
       a ∙ ap (λ (k : ℕ). record { answer = k; state = m; area = area }) (sym (ap (λ (h : LoadCall). h .answer) a) ∙ q))
+
+  -- a plain send, by its answer
+  refused-sent : (h : Send) (area : List ℕ) → ((k : ℕ) → h .answer ≡ refusedSend k → h .area ≡ area) → sentNumber (h .answer) ≡ number (refused n)
+      → plainSent h ≡ record { answer = number (refused n); area = area }
+  refused-sent h area same q = by (h .answer) refl
+    where
+      by : (a : Sent) → h .answer ≡ a → plainSent h ≡ record { answer = number (refused n); area = area }
+      by (writtenSend k) e = absurd (let z : sentNumber (writtenSend k) ≡ number (refused n) = ap sentNumber (sym e) ∙ q in omega (arith, z))
+      by (refusedSend k) e = rw (q, same k e)
+
+  refused-plain : (m p area : List ℕ) → plainSendCall m p area .answer ≡ number (refused n) → plainSendCall m p area ≡ record { answer = number (refused n); area = area }
+  refused-plain m p area q =
+      decide (spellPlainSender m)
+      (λ s.
+      let a = a-plain-sender m p area s in
+      a ∙ refused-sent (plainSend (plainSenderIn m) p area) area (plain-sends .refused (plainSenderIn m) p area) (sym (ap (λ (h : PlainCall). h .answer) a) ∙ q))
+      (λ s.
+      let a = not-plain-sender m p area s in
+      a ∙ ap (λ (k : ℕ). record { answer = k; area = area }) (sym (ap (λ (h : PlainCall). h .answer) a) ∙ q))
 
 -- ---- no octet, no change
 
@@ -482,6 +542,7 @@ refused-leaves-all =
       write = λ m lowArea highArea line n few q.
           none-write m lowArea highArea line (written-none m lowArea highArea line n few q)
           ∙ ap (λ (i : ℕ). record { answer = i; written = 0; state = m; line = line }) q;
+      plainSend = λ m p area n few. refused-plain n few m p area;
     }
 
 -- ---- no state
@@ -573,6 +634,27 @@ no-write m n e same b (x ∷ xs) =
     rw (out-write e b (length (x ∷ xs)), ne-eqb _ _ room)
     (ap (λ (h : WriteCall). h .answer) c ∙ no-next m e same b, ap (λ (h : WriteCall). h .written) c)
 
+-- the answer of a plain sender whose map is out of bounds
+out-plain : (s : PlainSender) → marksOk (s .marks) ≡ false → (p area : List ℕ) → sentNumber (plainSend s p area .answer) ≡ noPlainSender s p (length area)
+out-plain s b p area =
+    decide (valid (plainAgreed s))
+    (λ v. decide (ltb (length area) (length (plainLine s p)))
+    (λ k. rw (plain-sends .exactly s p area v (ltb-true _ _ k), v, k))
+    (λ k. rw (plain-sends .map s p area v (ltb-false _ _ k) b, v, k)))
+    (λ v. rw (plain-sends .settings s p area v, v))
+
+-- it hangs on the map by the length of what would be written
+same-plain : (s t : PlainSender) (p area : List ℕ) → s .width ≡ t .width → s .limit ≡ t .limit → length (plainLine s p) ≡ length (plainLine t p)
+    → noPlainSender s p (length area) ≡ noPlainSender t p (length area)
+same-plain s t p area w l n = rw (n, w, l)
+
+no-plain : (m : List ℕ) → spellPlainSender m ≡ false → (s : PlainSender) → s .width ≡ plainSenderIn m .width → s .limit ≡ plainSenderIn m .limit
+    → marksOk (s .marks) ≡ false → (p area : List ℕ) → length (plainLine s p) ≡ length (plainLine (plainSenderIn m) p)
+    → plainSendCall m p area .answer ≡ sentNumber (plainSend s p area .answer)
+no-plain m k s w l b p area n =
+    ap (λ (h : PlainCall). h .answer) (not-plain-sender m p area k)
+    ∙ (sym (same-plain s (plainSenderIn m) p area w l n) ∙ sym (out-plain s b p area))
+
 pub no-state-is-out-of-bounds : NoStateIsOutOfBounds
 no-state-is-out-of-bounds =
     record {
@@ -587,6 +669,7 @@ no-state-is-out-of-bounds =
           ∙ ap number (sym (out-load s b l p area));
       next = λ m n e same b. ap (λ (h : NextCall). h .answer) (no-sender m (e .low) (e .high) n) ∙ no-next m e same b;
       write = no-write;
+      plainSend = no-plain;
     }
 
 -- ---- the rest stays
@@ -658,15 +741,29 @@ module _ (m : List ℕ) where
   sender-opened-rest (OpenedSender s) = sender-rest m s
   sender-opened-rest (SenderRefused n) = refl
 
+  pair-opened-rest : (o : List ℕ) (s : PlainSender) → length (s .marks) ≡ 32 → (a : ReceiverOpening)
+      → (drop 36 (pairOpened m o s a .sender) ≡ drop 36 m) × (drop 26 (pairOpened m o s a .receiver) ≡ drop 26 o)
+  unfolding plainSenderOctets
+  pair-opened-rest o s full (OpenedReceiver r) = (rest 36 (plainSenderOctets s) m (omega (arith, full)), receiver-rest o r)
+  pair-opened-rest o s full (ReceiverRefused n) = (refl, refl)
+
+-- what a plain send makes of octets whose rest is other
+plain-rest : (m n p area : List ℕ) → plainSenderPart n ≡ plainSenderPart m → plainSendCall n p area ≡ plainSendCall m p area
+unfolding plainSendCall
+plain-rest m n p area e = let same = looks-nowhere-else .plainSender m n e in rw (same .0, same .1)
+
 pub rest-stays : RestStays
-unfolding openReceiver openSender
+unfolding openReceiver openSender openPair
 rest-stays =
     record {
-      openReceiver = λ m settings. receiver-opened-rest m (receiver.openReceiver settings);
+      openReceiver = λ m settings reading. receiver-opened-rest m (receiver.openReceiver settings reading);
       receive = receive-rest;
       read = read-rest;
       openSender = λ m settings. sender-opened-rest m (sender.openSender settings);
       load = load-rest;
       next = next-rest;
       write = write-rest;
+      openPair = λ m o settings map marks full.
+          pair-opened-rest m o (plain.openedPlainSender settings marks) (framing-length marks ∙ full) (plain.openPair settings map marks .receiver);
+      plainSend = plain-rest;
     }

@@ -10,11 +10,12 @@ use Rattle.link.specs.declared.sender.Lane.{Lane}
 use Rattle.link.specs.declared.sender.Sender.{Sender}
 use Rattle.link.specs.Sender.{SenderEnd, load, next, seen}
 use Rattle.link.specs.Receiver.{receive}
+use Rattle.link.specs.PlainSender.{plainSend}
 use Rattle.reader.specs.Reading.{readOn}
 use Rattle.writer.specs.Writing.{Filled, writeOn, onto}
 use Rattle.kutarehopa.specs.Numbers.{number}
-use Rattle.kutarehopa.specs.Layout.{settingsIn, spellReceiver, receiverIn, spellSender, senderIn, senderOctets, over}
-use Rattle.kutarehopa.specs.Calls.{noState, shortForReceiver, shortForSender, received, receiveCall, readTo, readCall, loaded, loadCall, sent, nextCall, wrote, writeCall}
+use Rattle.kutarehopa.specs.Layout.{settingsIn, spellReceiver, receiverIn, spellSender, senderIn, senderOctets, spellPlainSender, plainSenderIn, over}
+use Rattle.kutarehopa.specs.Calls.{noState, shortForReceiver, shortForSender, received, receiveCall, readTo, readCall, loaded, loadCall, sent, nextCall, wrote, writeCall, noPlainSender, plainSent, plainSendCall}
 
 -- ---- the receiver
 
@@ -92,3 +93,14 @@ wrote-none m a t z = simp (eq-eqb _ _ z)
 pub wrote-some : (m : List ℕ) (a : Answer) (t : Filled) → (t .filled ≡ 0 → ⊥)
     → record { answer = number (octet (getD (t .line) (t .filled - 1) 0)); written = t .filled; state = over (senderOctets (t .state)) m; line = t .line } ≡ wrote m a t
 wrote-some m a t z = simp (ne-eqb _ _ z)
+
+-- ---- the plain sender
+
+module _ (m p area : List ℕ) where
+  pub not-plain-sender : spellPlainSender m ≡ false → plainSendCall m p area ≡ record { answer = noPlainSender (plainSenderIn m) p (length area); area = area }
+  unfolding plainSendCall
+  not-plain-sender n = simp n
+
+  pub a-plain-sender : spellPlainSender m ≡ true → plainSendCall m p area ≡ plainSent (plainSend (plainSenderIn m) p area)
+  unfolding plainSendCall
+  a-plain-sender s = simp s

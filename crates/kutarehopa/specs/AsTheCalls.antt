@@ -6,6 +6,7 @@ use Prim.Native.Nat.{ℕ, _-_, _<_}
 use lib.Dec.{eqb}
 use lib.ListN.{length, take, drop, getD}
 use Rattle.fcs.specs.Notation.{if_then_else_}
+use Rattle.plain.specs.Maps.{refusedPair, marksOk}
 use Rattle.link.specs.declared.Settings.{Settings}
 use Rattle.link.specs.Agreed.{agreed, valid}
 use Rattle.link.specs.declared.sender.Opening.the-variants.{Refused as SenderRefused}
@@ -19,13 +20,19 @@ use Rattle.link.specs.Sender.{SenderEnd, Load, Next, load, next, seen}
 use Rattle.link.specs.Sender as sender
 use Rattle.link.specs.Receiver.{ReceiverEnd, Receive, receive}
 use Rattle.link.specs.Receiver as receiver
+use Rattle.link.specs.declared.receiver.PlainReading.{PlainReading}
+use Rattle.link.specs.declared.receiver.PlainReading.the-variants.{On as readingOn}
+use Rattle.link.specs.declared.plain_sender.PlainSender.{PlainSender}
+use Rattle.link.specs.PlainSender.{openedPlainSender, plainLine, plainSend}
+use Rattle.link.specs.PlainSender as plain
 use Rattle.link.specs.Runs.{SenderCall, loading, nextOctet, Station, senderAnswers, receives}
 use Rattle.reader.specs.Reading.{Reach, readOn}
 use Rattle.writer.specs.Writing.{Filled, writeOn, onto}
 use Rattle.writer.specs.Pieces.{ProgramStep, loads, piece, inPieces}
-use Rattle.kutarehopa.specs.Numbers.{number}
-use Rattle.kutarehopa.specs.Layout.{settingsIn, spellReceiver, receiverIn, receiverOctets, spellSender, senderIn, senderOctets, over}
-use Rattle.kutarehopa.specs.Calls.{openReceiver, openSender, ReceiveCall, receiveCall, ReadCall, readCall, LoadCall, loadCall, NextCall, nextCall, WriteCall, writeCall}
+use Rattle.kutarehopa.specs.Numbers.{number, sentNumber}
+use Rattle.kutarehopa.specs.Layout.{settingsIn, spellReceiver, receiverIn, receiverOctets, spellSender, senderIn, senderOctets, spellPlainSender, plainSenderIn, plainSenderOctets, over}
+use Rattle.kutarehopa.specs.Calls.{openReceiver, openSender, openPair, ReceiveCall, receiveCall, ReadCall, readCall, LoadCall, loadCall, NextCall, nextCall, WriteCall, writeCall, plainSent, plainSendCall}
+use Rattle.kutarehopa.specs.Spelling.{plainSenderPart}
 
 -- ---- on a packed state, which has in the octets of the layout those of a state: so every opening leaves it
 
@@ -76,6 +83,8 @@ pub record OnPackedStates : Type 0 where
   pub write : (s : Sender) (m low high line : List ℕ)
       → (let e : SenderEnd = record { state = s; low = low; high = high } in
       writeCall (over (senderOctets s) m) low high line ≡ writeInOctets m line e (onto line (writeOn (length line) e)))
+  pub plainSend : (s : PlainSender) (m p area : List ℕ) → length (s .marks) ≡ 32
+      → plainSendCall (over (plainSenderOctets s) m) p area ≡ plainSent (plainSend s p area)
 
 -- ---- call after call
 
@@ -148,16 +157,27 @@ pub record RunsAsLink : Type 0 where
   pub lines : (e : SenderEnd) (m : List ℕ) (ss : List LineStep)
       → octetsOnLines (record { state = over (senderOctets (e .state)) m; low = e .low; high = e .high }) ss ≡ inPieces e (map programStep ss) .octets
 
--- An opening that is refused, by whatever number, leaves all octets; an opened end is packed.
+-- An opening that is refused, by whatever number, leaves all octets; an opened end is packed. Of a pair both are, or both stay.
+--   marks: a pair's sender has 32 octets of marks, if those handed in are 32, so that packed it spells itself
 pub record OpenedIsPacked : Type 0 where
-  pub noReceiver : (m : List ℕ) (settings : Settings) (n : ℕ) → receiver.openReceiver settings ≡ ReceiverRefused n
-      → openReceiver m settings ≡ record { answer = number (refused n); state = m }
+  pub noReceiver : (m : List ℕ) (settings : Settings) (reading : PlainReading) (n : ℕ) → receiver.openReceiver settings reading ≡ ReceiverRefused n
+      → openReceiver m settings reading ≡ record { answer = number (refused n); state = m }
   pub noSender : (m : List ℕ) (settings : Settings) (n : ℕ) → sender.openSender settings ≡ SenderRefused n
       → openSender m settings ≡ record { answer = number (refused n); state = m }
-  pub receiver : (m : List ℕ) (settings : Settings) → valid (agreed settings) ≡ true
-      → openReceiver m settings ≡ record { answer = number done; state = over (receiverOctets (receiver.openedReceiver settings)) m }
+  pub noPair : (m o : List ℕ) (settings : Settings) (map : ℕ) (marks : List ℕ) (n : ℕ) → plain.openPair settings map marks .receiver ≡ ReceiverRefused n
+      → openPair m o settings map marks ≡ record { answer = number (refused n); sender = m; receiver = o }
+  pub pair : (m o : List ℕ) (settings : Settings) (map : ℕ) (marks : List ℕ) → valid (agreed settings) ≡ true → refusedPair map marks ≡ false
+      → openPair m o settings map marks
+      ≡ record {
+        answer = number done;
+        sender = over (plainSenderOctets (openedPlainSender settings marks)) m;
+        receiver = over (receiverOctets (receiver.openedReceiver settings (readingOn map))) o;
+      }
+  pub receiver : (m : List ℕ) (settings : Settings) (reading : PlainReading) → valid (agreed settings) ≡ true
+      → openReceiver m settings reading ≡ record { answer = number done; state = over (receiverOctets (receiver.openedReceiver settings reading)) m }
   pub sender : (m : List ℕ) (settings : Settings) → valid (agreed settings) ≡ true
       → openSender m settings ≡ record { answer = number done; state = over (senderOctets (sender.openedSender settings)) m }
+  pub marks : (settings : Settings) (marks : List ℕ) → length marks ≡ 32 → length (openedPlainSender settings marks .marks) ≡ 32
 
 -- ---- on any octets
 
@@ -185,6 +205,8 @@ pub record AsPackedAgain : Type 0 where
       (writeCall m low high (x ∷ line) .answer ≡ h .answer)
       × (writeCall m low high (x ∷ line) .written ≡ h .written)
       × ((h .written ≡ 0 → ⊥) → writeCall m low high (x ∷ line) ≡ h))
+  pub plainSend : (m : List ℕ) → spellPlainSender m ≡ true → (p area : List ℕ)
+      → plainSendCall m p area ≡ plainSendCall (over (plainSenderOctets (plainSenderIn m)) m) p area
 
 -- With no octets, and with no room, no call is made, whatever the octets are.
 pub record NoCallMade : Type 0 where
@@ -202,6 +224,8 @@ pub record RefusedLeavesAll : Type 0 where
   pub next : (m low high : List ℕ) (n : ℕ) → n < 5 → nextCall m low high .answer ≡ number (refused n) → nextCall m low high .state ≡ m
   pub write : (m low high line : List ℕ) (n : ℕ) → n < 5 → writeCall m low high line .answer ≡ number (refused n)
       → writeCall m low high line ≡ record { answer = number (refused n); written = 0; state = m; line = line }
+  pub plainSend : (m p area : List ℕ) (n : ℕ) → n < 5 → plainSendCall m p area .answer ≡ number (refused n)
+      → plainSendCall m p area ≡ record { answer = number (refused n); area = area }
 
 -- Nor does a sender's call change an octet that writes none: next octet where it answers Idle or a refusal, and writing on.
 pub record NoOctetNoChange : Type 0 where
@@ -211,7 +235,8 @@ pub record NoOctetNoChange : Type 0 where
       → nextCall m low high ≡ record { answer = number (refused n); state = m }
   pub write : (m low high line : List ℕ) → writeCall m low high line .written ≡ 0 → (writeCall m low high line .state ≡ m) × (writeCall m low high line .line ≡ line)
 
--- Octets that spell no state are answered as any state of their settings that is out of bounds.
+-- Octets that spell no state are answered as any state of their settings that is out of bounds; a plain send as any plain sender of their width and
+-- limit whose map is out of bounds, if it makes of the packet as many octets as theirs: so with their own map, where that is out of bounds.
 pub record NoStateIsOutOfBounds : Type 0 where
   pub receive : (m : List ℕ) → spellReceiver m ≡ false → (e : ReceiverEnd) → e .state .settings ≡ settingsIn m → receiver.inBounds (agreed (e .state .settings)) (e .state) ≡ false → (x : ℕ)
       → receiveCall m x (e .first) (e .second) .answer ≡ number (receive e x .report)
@@ -224,14 +249,20 @@ pub record NoStateIsOutOfBounds : Type 0 where
   pub write : (m : List ℕ) → spellSender m ≡ false → (e : SenderEnd) → e .state .settings ≡ settingsIn m → sender.inBounds (agreed (e .state .settings)) (e .state) ≡ false → (line : List ℕ)
       → (writeCall m (e .low) (e .high) line .answer ≡ number (lastAnswer line e (onto line (writeOn (length line) e))))
       × (writeCall m (e .low) (e .high) line .written ≡ 0)
+  pub plainSend : (m : List ℕ) → spellPlainSender m ≡ false → (s : PlainSender) → s .width ≡ plainSenderIn m .width → s .limit ≡ plainSenderIn m .limit
+      → marksOk (s .marks) ≡ false → (p area : List ℕ) → length (plainLine s p) ≡ length (plainLine (plainSenderIn m) p)
+      → plainSendCall m p area .answer ≡ sentNumber (plainSend s p area .answer)
 
--- No call writes to the octets of a memory that the layout does not list: those from the 27th of a receiver's on, and from the 39th of a
--- sender's.
+-- No call writes to the octets of a memory that the layout does not list: those from the 27th of a receiver's on, from the 39th of a sender's, and
+-- from the 37th of a plain sender's. A plain send only reads its sender's octets, and those make no difference to it.
 pub record RestStays : Type 0 where
-  pub openReceiver : (m : List ℕ) (settings : Settings) → drop 26 (openReceiver m settings .state) ≡ drop 26 m
+  pub openReceiver : (m : List ℕ) (settings : Settings) (reading : PlainReading) → drop 26 (openReceiver m settings reading .state) ≡ drop 26 m
   pub receive : (m : List ℕ) (x : ℕ) (first second : List ℕ) → drop 26 (receiveCall m x first second .state) ≡ drop 26 m
   pub read : (m xs first second : List ℕ) → drop 26 (readCall m xs first second .state) ≡ drop 26 m
   pub openSender : (m : List ℕ) (settings : Settings) → drop 38 (openSender m settings .state) ≡ drop 38 m
   pub load : (l : Lane) (m p area : List ℕ) → drop 38 (loadCall l m p area .state) ≡ drop 38 m
   pub next : (m low high : List ℕ) → drop 38 (nextCall m low high .state) ≡ drop 38 m
   pub write : (m low high line : List ℕ) → drop 38 (writeCall m low high line .state) ≡ drop 38 m
+  pub openPair : (m o : List ℕ) (settings : Settings) (map : ℕ) (marks : List ℕ) → length marks ≡ 32
+      → (drop 36 (openPair m o settings map marks .sender) ≡ drop 36 m) × (drop 26 (openPair m o settings map marks .receiver) ≡ drop 26 o)
+  pub plainSend : (m n p area : List ℕ) → plainSenderPart n ≡ plainSenderPart m → plainSendCall n p area ≡ plainSendCall m p area

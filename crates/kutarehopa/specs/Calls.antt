@@ -6,6 +6,7 @@ use Prim.Native.Nat.{ℕ, _-_}
 use lib.Dec.{leb, ltb, eqb}
 use lib.ListN.{length, getD}
 use Rattle.fcs.specs.Notation.{if_then_else_}
+use Rattle.plain.specs.Stuffing.{Send}
 use Rattle.link.specs.declared.Settings.{Settings}
 use Rattle.link.specs.Agreed.{agreed, valid, largestFrame, mostDecoded}
 use Rattle.link.specs.Answers.{Answer, done, octet, idle, quiet, packet, held, refused}
@@ -18,12 +19,17 @@ use Rattle.link.specs.Sender as sender
 use Rattle.link.specs.declared.receiver.Receiver.{Receiver}
 use Rattle.link.specs.declared.receiver.Opening.{Opening as ReceiverOpening}
 use Rattle.link.specs.declared.receiver.Opening.the-variants.{Opened as OpenedReceiver, Refused as ReceiverRefused}
+use Rattle.link.specs.declared.receiver.PlainReading.{PlainReading}
+use Rattle.link.specs.declared.receiver.PlainReading.the-variants.{Off as readingOff, On as readingOn}
 use Rattle.link.specs.Receiver.{Receive, receive}
 use Rattle.link.specs.Receiver as receiver
+use Rattle.link.specs.declared.plain_sender.PlainSender.{PlainSender}
+use Rattle.link.specs.PlainSender.{plainLine, plainSend}
+use Rattle.link.specs.PlainSender as plain
 use Rattle.reader.specs.Reading.{Reach, readOn}
 use Rattle.writer.specs.Writing.{Filled, writeOn, onto}
-use Rattle.kutarehopa.specs.Numbers.{number}
-use Rattle.kutarehopa.specs.Layout.{settingsIn, spellReceiver, receiverIn, receiverOctets, spellSender, senderIn, senderOctets, over}
+use Rattle.kutarehopa.specs.Numbers.{number, sentNumber}
+use Rattle.kutarehopa.specs.Layout.{settingsIn, spellReceiver, receiverIn, receiverOctets, spellSender, senderIn, senderOctets, spellPlainSender, plainSenderIn, plainSenderOctets, over}
 
 -- ---- opening
 
@@ -36,8 +42,12 @@ abbrev pub receiverOpened : List ℕ → ReceiverOpening → OpenCall
 receiverOpened m (OpenedReceiver r) = record { answer = number done; state = over (receiverOctets r) m }
 receiverOpened m (ReceiverRefused n) = record { answer = number (refused n); state = m }
 
-unfoldable pub openReceiver : List ℕ → Settings → OpenCall
-openReceiver m settings = receiverOpened m (receiver.openReceiver settings)
+unfoldable pub openReceiver : List ℕ → Settings → PlainReading → OpenCall
+openReceiver m settings reading = receiverOpened m (receiver.openReceiver settings reading)
+
+-- Plain reading is off with 0 in the mark, whatever the map, and else on.
+abbrev pub readingOf : ℕ → ℕ → PlainReading
+readingOf mark map = if eqb mark 0 then readingOff else readingOn map
 
 abbrev pub senderOpened : List ℕ → SenderOpening → OpenCall
 senderOpened m (OpenedSender s) = record { answer = number done; state = over (senderOctets s) m }
@@ -45,6 +55,19 @@ senderOpened m (SenderRefused n) = record { answer = number (refused n); state =
 
 unfoldable pub openSender : List ℕ → Settings → OpenCall
 openSender m settings = senderOpened m (sender.openSender settings)
+
+-- a pair: both states are opened, or none
+pub record PairCall : Type 0 where
+  pub answer : ℕ
+  pub sender : List ℕ
+  pub receiver : List ℕ
+
+abbrev pub pairOpened : List ℕ → List ℕ → PlainSender → ReceiverOpening → PairCall
+pairOpened m n s (OpenedReceiver r) = record { answer = number done; sender = over (plainSenderOctets s) m; receiver = over (receiverOctets r) n }
+pairOpened m n s (ReceiverRefused k) = record { answer = number (refused k); sender = m; receiver = n }
+
+unfoldable pub openPair : List ℕ → List ℕ → Settings → ℕ → List ℕ → PairCall
+openPair m n settings map marks = let p = plain.openPair settings map marks in pairOpened m n (p .sender) (p .receiver)
 
 -- ---- octets that spell no state
 
@@ -188,3 +211,23 @@ writeCall m low high line =
     (let e : SenderEnd = record { state = senderIn m; low = low; high = high } in
     wrote m (seen (next e) .answer) (onto line (writeOn (length line) e)))
     else record { answer = noState (settingsIn m) (shortForSender (settingsIn m) low || shortForSender (settingsIn m) high); written = 0; state = m; line = line }
+
+-- ---- the plain sender
+
+-- Its octets are only read.
+pub record PlainCall : Type 0 where
+  pub answer : ℕ
+  pub area : List ℕ
+
+abbrev pub plainSent : Send → PlainCall
+plainSent h = record { answer = sentNumber (h .answer); area = h .area }
+
+-- Octets that spell no state are refused as a sending map out of bounds is: 3 of a width or a limit that is not valid, 2 where frame and flag
+-- do not fit, by the map as it stands, and else 3. There is no settings octet.
+abbrev pub noPlainSender : PlainSender → List ℕ → ℕ → ℕ
+noPlainSender s p room = noState (record { octet = 0; width = s .width; limit = s .limit }) (ltb room (length (plainLine s p)))
+
+unfoldable pub plainSendCall : List ℕ → List ℕ → List ℕ → PlainCall
+plainSendCall m p area =
+    if spellPlainSender m then plainSent (plainSend (plainSenderIn m) p area)
+    else record { answer = noPlainSender (plainSenderIn m) p (length area); area = area }

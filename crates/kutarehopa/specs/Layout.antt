@@ -1,29 +1,31 @@
 -- The octets of a state, field by field: it is packed into the first of 64 octets that the caller has. Those listed here are written, each with
--- the value of its field; a field of later work has the one value that it can have as yet, and is not looked at. Numbers of two octets or four
--- have the low one first, and marks are 0 or 1.
+-- the value of its field; a sender's fields of later work have the one value that they can have as yet, and are not looked at. Numbers of two
+-- octets or four have the low one first, and marks are 0 or 1.
 --
 --   receiver                               sender
 --   0       1                              0       1
 --   1       width                          1       width
 --   2-3     limit                          2-3     limit
 --   4       settings                       4       settings
---   5       mode: 0                        5       lane on the line: 0 none, 1 low, 2 high
---   6-9     map: 0                         6       suspended
---   10      work area: 0 first, 1 second   7       cut due
---   11-12   decoded                        8-9     low length
---   13      something held                 10-11   low position
---   14-15   held count, 0 if nothing is    12-13   high length
---   16-19   register                       14-15   high position
---   20      data left                      16      data left
---   21      zeros due                      17      zeros due
---   22      last block: 0 none, 1 D0,      18-37   0
---           2 other
---   23      in a frame
---   24      resumed
---   25      remembered refusal
+--   5       mode: 0 off, 1 COBS, 2 plain,  5       lane on the line: 0 none, 1 low, 2 high
+--           3 plain with an escape open    6       suspended
+--   6-9     receiving map                  7       cut due
+--   10      work area: 0 first, 1 second   8-9     low length
+--   11-12   decoded                        10-11   low position
+--   13      something held                 12-13   high length
+--   14-15   held count, 0 if nothing is    14-15   high position
+--   16-19   register                       16      data left
+--   20      data left                      17      zeros due
+--   21      zeros due                      18-37   0
+--   22      last block: 0 none, 1 D0,
+--           2 other                        plain sender
+--   23      in a frame                     0       1
+--   24      resumed                        1       width
+--   25      remembered refusal             2-3     limit
+--                                          4-35    sending map
 use mathlib.Core.Bool.{Bool, true, false, _&&_, _||_}
 use mathlib.Core.List.{List, [], _∷_, _++_}
-use Prim.Native.Nat.{ℕ, _+_, _*_, _/_, _%_}
+use Prim.Native.Nat.{ℕ, zero, suc, _+_, _*_, _/_, _%_}
 use lib.Dec.{leb, eqb}
 use lib.ListN.{length, drop, getD, replicate}
 use Rattle.fcs.specs.Notation.{if_then_else_}
@@ -38,7 +40,10 @@ use Rattle.link.specs.declared.receiver.Fragment.{Fragment}
 use Rattle.link.specs.declared.receiver.Fragment.the-variants.{NothingHeld as nothingHeld, Holds as holds}
 use Rattle.link.specs.declared.receiver.LastBlock.{LastBlock}
 use Rattle.link.specs.declared.receiver.LastBlock.the-variants.{NoBlock as noBlock, BlockD0 as blockD0, OtherBlock as otherBlock}
+use Rattle.link.specs.declared.receiver.Mode.{Mode}
+use Rattle.link.specs.declared.receiver.Mode.the-variants.{Off as keptOff, Cobs as cobs, Plain as plain, Escaped as escapeOpen}
 use Rattle.link.specs.declared.receiver.Receiver.{Receiver}
+use Rattle.link.specs.declared.plain_sender.PlainSender.{PlainSender}
 
 -- ---- fields
 
@@ -54,6 +59,11 @@ longAt m i = octetAt m i + 256 * octetAt m (i + 1) + 65536 * octetAt m (i + 2) +
 
 abbrev pub markAt : List ℕ → ℕ → Bool
 markAt m i = eqb (octetAt m i) 1
+
+-- k octets from i on
+unfoldable pub octetsFrom : List ℕ → ℕ → ℕ → List ℕ
+octetsFrom m i zero = []
+octetsFrom m i (suc k) = octetAt m i ∷ octetsFrom m (i + 1) k
 
 -- and back
 abbrev pub lowOctet : ℕ → ℕ
@@ -90,6 +100,15 @@ lastBlockOctet noBlock = 0
 lastBlockOctet blockD0 = 1
 lastBlockOctet otherBlock = 2
 
+abbrev pub modeOf : ℕ → Mode
+modeOf n = if eqb n 0 then keptOff else if eqb n 1 then cobs else if eqb n 2 then plain else escapeOpen
+
+abbrev pub modeOctet : Mode → ℕ
+modeOctet keptOff = 0
+modeOctet cobs = 1
+modeOctet plain = 2
+modeOctet escapeOpen = 3
+
 abbrev pub heldCount : Fragment → ℕ
 heldCount nothingHeld = 0
 heldCount (holds n k) = n
@@ -101,7 +120,7 @@ heldOctet (holds n k) = 1
 -- whether octets spell a receiver's state: where nothing is held, the register is at its start
 unfoldable pub spellReceiver : List ℕ → Bool
 spellReceiver m =
-    eqb (octetAt m 0) 1 && leb (octetAt m 10) 1 && leb (octetAt m 13) 1 && leb (octetAt m 22) 2 && leb (octetAt m 23) 1 && leb (octetAt m 24) 1
+    eqb (octetAt m 0) 1 && leb (octetAt m 5) 3 && leb (octetAt m 10) 1 && leb (octetAt m 13) 1 && leb (octetAt m 22) 2 && leb (octetAt m 23) 1 && leb (octetAt m 24) 1
     && (markAt m 13 || eqb (longAt m 16) (carried (agreed (settingsIn m)) nothingHeld))
 
 -- the state that they spell,
@@ -109,6 +128,8 @@ unfoldable pub receiverIn : List ℕ → Receiver
 receiverIn m =
     record {
       settings = settingsIn m;
+      mode = modeOf (octetAt m 5);
+      map = longAt m 6;
       turn = markAt m 10;
       decoded = numberAt m 11;
       held = if markAt m 13 then holds (numberAt m 14) (longAt m 16) else nothingHeld;
@@ -124,7 +145,8 @@ receiverIn m =
 unfoldable pub receiverOctets : Receiver → List ℕ
 receiverOctets r =
     let k = carried (agreed (r .settings)) (r .held) in
-    1 ∷ r .settings .width ∷ lowOctet (r .settings .limit) ∷ highOctet (r .settings .limit) ∷ r .settings .octet ∷ 0 ∷ 0 ∷ 0 ∷ 0 ∷ 0
+    1 ∷ r .settings .width ∷ lowOctet (r .settings .limit) ∷ highOctet (r .settings .limit) ∷ r .settings .octet
+    ∷ modeOctet (r .mode) ∷ lowOctet (r .map) ∷ secondOctet (r .map) ∷ thirdOctet (r .map) ∷ fourthOctet (r .map)
     ∷ markOctet (r .turn) ∷ lowOctet (r .decoded) ∷ highOctet (r .decoded)
     ∷ heldOctet (r .held) ∷ lowOctet (heldCount (r .held)) ∷ highOctet (heldCount (r .held)) ∷ lowOctet k ∷ secondOctet k ∷ thirdOctet k ∷ fourthOctet k
     ∷ r .left ∷ r .zeros ∷ lastBlockOctet (r .last) ∷ markOctet (r .framed) ∷ markOctet (r .resumed) ∷ r .refusal ∷ []
@@ -162,6 +184,17 @@ senderOctets s =
     ∷ lowOctet (s .low .length) ∷ highOctet (s .low .length) ∷ lowOctet (s .low .position) ∷ highOctet (s .low .position)
     ∷ lowOctet (s .high .length) ∷ highOctet (s .high .length) ∷ lowOctet (s .high .position) ∷ highOctet (s .high .position)
     ∷ s .left ∷ s .zeros ∷ replicate 20 0
+
+-- ---- the plain sender
+
+unfoldable pub spellPlainSender : List ℕ → Bool
+spellPlainSender m = eqb (octetAt m 0) 1
+
+unfoldable pub plainSenderIn : List ℕ → PlainSender
+plainSenderIn m = record { width = octetAt m 1; limit = numberAt m 2; marks = octetsFrom m 4 32 }
+
+unfoldable pub plainSenderOctets : PlainSender → List ℕ
+plainSenderOctets s = 1 ∷ s .width ∷ lowOctet (s .limit) ∷ highOctet (s .limit) ∷ s .marks
 
 -- ---- in the caller's memory
 

@@ -1,9 +1,11 @@
 // The numbers of answers (specs/Numbers.antt): the kind in the high octet, then a mark, then the value in the low 16 bits.
 ghost use mathlib.Core.Path.{_≡_};
+ghost use Prim.Native.Nat.{_<_};
 ghost use Rattle.link.specs.Answers.{done, octet, idle, quiet, refused, nextAnswer, reportAnswer};
-ghost use Rattle.kutarehopa.specs.Numbers.{numbered, number};
+ghost use Rattle.kutarehopa.specs.Numbers.{numbered, number, sentValue, sentNumber};
 use link::receiver::Report;
 use link::sender::NextAnswer;
+use plain::Sent;
 
 const QUIET: u8 = 0;
 
@@ -18,6 +20,8 @@ const DONE: u8 = 4;
 const OCTET: u8 = 5;
 
 const IDLE: u8 = 6;
+
+const WRITTEN: u8 = 7;
 
 fn numbered(kind: u8, mark: bool, value: u16) -> u32
     ensures { λ r. ⌜ r ≡ numbered kind mark value ⌝ }
@@ -79,5 +83,15 @@ pub(crate) fn of_report(report: Report) -> u32
         Report::Packet { second, length } => numbered(PACKET, second, length),
         Report::Held { count, replaced } => numbered(HELD, replaced, count),
         Report::Refused(n) => refused(n),
+    }
+}
+
+pub(crate) fn of_sent(answer: Sent) -> u32
+    requires { ⌜ sentValue answer < 0x10000 ⌝ }
+    ensures { λ r. ⌜ r ≡ sentNumber answer ⌝ }
+{
+    match answer {
+        Sent::Written(n) => numbered(WRITTEN, false, n as u16),
+        Sent::Refused(n) => refused(n),
     }
 }

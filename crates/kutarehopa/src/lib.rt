@@ -9,16 +9,19 @@ ghost use Rattle.fcs.specs.CheckSequence.{check16, check32, feed};
 ghost use Rattle.link.specs.Agreed.{agreed, largestFrame, mostDecoded};
 ghost use Rattle.link.specs.Sender.{SenderEnd, load, next, seen};
 ghost use Rattle.link.specs.Receiver.{receive};
+ghost use Rattle.link.specs.PlainSender.{plainSend};
 ghost use Rattle.link.specs.declared.sender.Lane.the-variants.{Low as lowLane, High as highLane};
 ghost use Rattle.reader.specs.Reading.{readOn};
 ghost use Rattle.writer.specs.Writing.{writeOn, onto};
 ghost use Rattle.kutarehopa.specs.Layout.{settingsIn};
-ghost use Rattle.kutarehopa.specs.Calls.{noState, openReceiver, openSender, received, receiveCall, readTo, readCall, loaded, loadCall, sent, nextCall, wrote, writeCall};
-ghost use Rattle.kutarehopa.specs.Numbers.{NumbersComeApart, ReportsHaveNumbers};
+ghost use Rattle.kutarehopa.specs.Calls.{noState, readingOf, openReceiver, openSender, openPair, received, receiveCall, readTo, readCall, loaded, loadCall, sent, nextCall, wrote, writeCall, noPlainSender, plainSent, plainSendCall};
+ghost use Rattle.kutarehopa.specs.Numbers.{NumbersComeApart, ReportsHaveNumbers, SendsHaveNumbers};
 ghost use Rattle.kutarehopa.specs.Spelling.{PackedSpellsItself, PackedAgain, LooksNowhereElse};
 ghost use Rattle.kutarehopa.specs.AsTheCalls.{OpenedIsPacked, OnPackedStates, RunsAsLink, AsPackedAgain, NoCallMade, RefusedLeavesAll, NoOctetNoChange, NoStateIsOutOfBounds, RestStays};
 ghost use Rattle.kutarehopa.specs.Marked.{MarkedOctets, MarkedNumbers};
 use link::Settings;
+use link::plain_sender::PlainSender;
+use link::receiver::PlainReading;
 use link::receiver::Receiver;
 use link::sender::Lane;
 use link::sender::LoadAnswer;
@@ -26,6 +29,7 @@ use link::sender::NextAnswer;
 use link::sender::Sender;
 
 mod answers;
+mod plain_sender;
 mod receiver;
 mod sender;
 
@@ -92,20 +96,34 @@ fn short_for_sender(settings: Settings, low: usize, high: usize) -> bool
 
 // ---- the receiver
 
+// Plain reading, off or on with this map.
+fn reading(mark: u8, map: u32) -> PlainReading
+    ensures { λ r. ⌜ r ≡ readingOf mark map ⌝ }
+{
+    if mark == 0 {
+        return PlainReading::Off;
+    }
+    PlainReading::On(map)
+}
+
 #[no_mangle]
 pub extern "C" fn kuta_receiver_open(
     state: &mut [u8; 64],
     settings: u8,
     width: u8,
     limit: u16,
+    plain: u8,
+    map: u32,
 ) -> u32
-    ensures { λ r. ⌜ record { answer = r; state = now (state .exit) } ≡ openReceiver (now (state .entry)) (record { octet = settings; width = width; limit = limit }) ⌝ }
+    ensures { λ r. ⌜ record { answer = r; state = now (state .exit) }
+        ≡ openReceiver (now (state .entry)) (record { octet = settings; width = width; limit = limit }) (readingOf plain map) ⌝ }
 {
-    let opening = link::receiver::open(Settings {
+    let agreed = Settings {
         octet: settings,
         width,
         limit,
-    });
+    };
+    let opening = link::receiver::open(agreed, reading(plain, map));
     match opening {
         link::receiver::Opening::Opened(opened) => {
             receiver::pack(state, opened);
@@ -349,6 +367,75 @@ pub extern "C" fn kuta_write_on(
     wrote(state, before, low, high, line)
 }
 
+// ---- plain PPP
+
+// A plain sender and a receiver that reads what it writes.
+#[no_mangle]
+pub extern "C" fn kuta_pair_open(
+    sender: &mut [u8; 64],
+    receiver: &mut [u8; 64],
+    settings: u8,
+    width: u8,
+    limit: u16,
+    map: u32,
+    marks: &[u8; 32],
+) -> u32
+    ensures { λ r. ⌜ record { answer = r; sender = now (sender .exit); receiver = now (receiver .exit) }
+        ≡ openPair (now (sender .entry)) (now (receiver .entry)) (record { octet = settings; width = width; limit = limit }) map (now (marks .entry)) ⌝ }
+{
+    let agreed = Settings {
+        octet: settings,
+        width,
+        limit,
+    };
+    let pair = link::plain_sender::open_pair(agreed, map, *marks);
+    let sends = pair.sender;
+    let reads = pair.receiver;
+    match reads {
+        link::receiver::Opening::Opened(opened) => {
+            plain_sender::pack(sender, sends);
+            receiver::pack(receiver, opened);
+            answers::done()
+        }
+        link::receiver::Opening::Refused(k) => answers::refused(k),
+    }
+}
+
+// Octets that spell no plain sender are refused.
+fn no_plain_sender(state: PlainSender, packet: &[u8], room: usize) -> u32
+    ensures { λ r. ⌜ r ≡ noPlainSender state (now (packet .entry)) room ⌝ }
+{
+    let settings = Settings {
+        octet: 0,
+        width: state.width,
+        limit: state.limit,
+    };
+    let marks = state.marks;
+    no_state(
+        settings,
+        plain::too_long(packet, state.width == 32, &marks, room),
+    )
+}
+
+// A plain send, on the state that the octets spell.
+fn plain_sent(state: PlainSender, packet: &[u8], area: &mut [u8]) -> u32
+    ensures { λ r. ⌜ record { answer = r; area = now (area .exit) } ≡ plainSent (plainSend state (now (packet .entry)) (now (area .entry))) ⌝ }
+{
+    answers::of_sent(state.send(packet, area))
+}
+
+#[no_mangle]
+pub extern "C" fn kuta_plain_send(sender: &[u8; 64], packet: &[u8], area: &mut [u8]) -> u32
+    ensures { λ r. ⌜ record { answer = r; area = now (area .exit) }
+        ≡ plainSendCall (now (sender .entry)) (now (packet .entry)) (now (area .entry)) ⌝ }
+{
+    let state = plain_sender::unpack(sender);
+    if !plain_sender::spells(sender) {
+        return no_plain_sender(state, packet, area.len());
+    }
+    plain_sent(state, packet, area)
+}
+
 // ---- the check sequence
 
 // RFC 1662's functions, under their names.
@@ -368,7 +455,7 @@ pub extern "C" fn pppfcs32(start: u32, octets: &[u8]) -> u32
 
 // What is claimed of this crate: each theorem that docs/DEMANDS.md names.
 pub fn claims()
-    ensures { λ _. ⌜ NumbersComeApart × ReportsHaveNumbers ⌝ }
+    ensures { λ _. ⌜ NumbersComeApart × ReportsHaveNumbers × SendsHaveNumbers ⌝ }
     ensures { λ _. ⌜ PackedSpellsItself × PackedAgain × LooksNowhereElse ⌝ }
     ensures { λ _. ⌜ OpenedIsPacked × OnPackedStates × RunsAsLink ⌝ }
     ensures { λ _. ⌜ AsPackedAgain × NoCallMade × RefusedLeavesAll × NoOctetNoChange × NoStateIsOutOfBounds × RestStays ⌝ }

@@ -5,9 +5,10 @@ ghost use lib.Dec.{eqb};
 ghost use Rattle.link.specs.declared.receiver.Fragment.the-variants.{NothingHeld as nothingHeld, Holds as holds};
 ghost use Rattle.link.specs.Answers.{reportAnswer};
 ghost use Rattle.kutarehopa.specs.Calls.{taken, receiverAfter};
-ghost use Rattle.kutarehopa.specs.Layout.{longAt, lastBlockOf, lastBlockOctet, heldCount, heldOctet, spellReceiver, receiverIn, receiverOctets, over};
+ghost use Rattle.kutarehopa.specs.Layout.{longAt, lastBlockOf, lastBlockOctet, modeOf, modeOctet, heldCount, heldOctet, spellReceiver, receiverIn, receiverOctets, over};
 use link::receiver::Fragment;
 use link::receiver::LastBlock;
+use link::receiver::Mode;
 use link::receiver::Receiver;
 use link::receiver::Report;
 
@@ -61,7 +62,40 @@ fn last_octet(last: LastBlock) -> u8
     }
 }
 
-// The register in a receiver's octets.
+fn mode_of(n: u8) -> Mode
+    ensures { λ r. ⌜ r ≡ modeOf n ⌝ }
+{
+    if n == 0 {
+        return Mode::Off;
+    }
+    if n == 1 {
+        return Mode::Cobs;
+    }
+    if n == 2 {
+        return Mode::Plain;
+    }
+    Mode::Escaped
+}
+
+fn mode_octet(mode: Mode) -> u8
+    ensures { λ r. ⌜ r ≡ modeOctet mode ⌝ }
+{
+    match mode {
+        Mode::Off => 0,
+        Mode::Cobs => 1,
+        Mode::Plain => 2,
+        Mode::Escaped => 3,
+    }
+}
+
+// The map in a receiver's octets,
+fn map_in(state: &[u8; 64]) -> u32
+    ensures { λ r. ⌜ r ≡ longAt (now (state .entry)) 6 ⌝ }
+{
+    crate::long(state[6], state[7], state[8], state[9])
+}
+
+// and the register.
 fn register_in(state: &[u8; 64]) -> u32
     ensures { λ r. ⌜ r ≡ longAt (now (state .entry)) 16 ⌝ }
 {
@@ -76,6 +110,7 @@ pub(crate) fn spells(state: &[u8; 64]) -> bool
     let register = register_in(state);
     let start = settings.start();
     (state[0] == 1)
+        & (state[5] <= 3)
         & (state[10] <= 1)
         & (state[13] <= 1)
         & (state[22] <= 2)
@@ -89,9 +124,11 @@ pub(crate) fn unpack(state: &[u8; 64]) -> Receiver
     ensures { λ r. ⌜ r ≡ receiverIn (now (state .entry)) ⌝ }
 {
     let settings = crate::settings_in(state);
+    let map = map_in(state);
     let register = register_in(state);
     let held = fragment(state[13], crate::number(state[14], state[15]), register);
     let last = last_block(state[22]);
+    let mode = mode_of(state[5]);
     Receiver {
         zeros: state[21],
         resumed: state[24] == 1,
@@ -103,6 +140,8 @@ pub(crate) fn unpack(state: &[u8; 64]) -> Receiver
         turn: state[10] == 1,
         refusal: state[25],
         decoded: crate::number(state[11], state[12]),
+        mode,
+        map,
     }
 }
 
@@ -115,20 +154,23 @@ pub(crate) fn pack(state: &mut [u8; 64], r: Receiver)
     let settings = r.settings;
     let held = r.held;
     let last = r.last;
+    let mode = r.mode;
+    let map = r.map;
     let mark = held_octet(held);
     let count = held_count(held);
     let register = r.carried();
     let block = last_octet(last);
+    let reading = mode_octet(mode);
     state[0] = 1;
     state[1] = settings.width;
     state[2] = (settings.limit % 256) as u8;
     state[3] = (settings.limit / 256) as u8;
     state[4] = settings.octet;
-    state[5] = 0;
-    state[6] = 0;
-    state[7] = 0;
-    state[8] = 0;
-    state[9] = 0;
+    state[5] = reading;
+    state[6] = (map % 256) as u8;
+    state[7] = (map / 256 % 256) as u8;
+    state[8] = (map / 65536 % 256) as u8;
+    state[9] = (map / 16777216) as u8;
     state[10] = r.turn as u8;
     state[11] = (r.decoded % 256) as u8;
     state[12] = (r.decoded / 256) as u8;

@@ -27,6 +27,9 @@ valid-limit g v = and-right (validWidth g) (validLimit g) v
 pub limit-at-most : (g : Agreed) → valid g ≡ true → g .limit ≤ largestLimit
 limit-at-most g v = leb-true (g .limit) largestLimit (and-right (leb leastPacket (g .limit)) (leb (g .limit) largestLimit) (valid-limit g v))
 
+pub limit-at-least : (g : Agreed) → valid g ≡ true → leastPacket ≤ g .limit
+limit-at-least g v = leb-true leastPacket (g .limit) (and-left (leb leastPacket (g .limit)) (leb (g .limit) largestLimit) (valid-limit g v))
+
 -- ---- the check
 
 pub sound-check : (t : Settings) → Sound (agreed t .check)

@@ -5,7 +5,7 @@ use mathlib.Core.List.{List, [], _∷_, _++_}
 use mathlib.Core.Option.{Option, some}
 use Prim.Native.Nat.{ℕ, _+_, _-_, _≤_}
 use native.Mathlib.Omega.{arith}
-use borrow.Author.Tests.{ltb-false, le-ltb, eqb-true, eqb-false}
+use borrow.Author.Tests.{ltb-false}
 use lib.Dec.{ltb, eqb}
 use lib.ListN.{length, take, replicate}
 use lib.Seq.{take-take}
@@ -13,16 +13,22 @@ use Rattle.fcs.specs.CheckSequence.{register, good}
 use Rattle.cobs.specs.CodeBlocks.{flag, fromLine, meaning}
 use Rattle.cobs.specs.declared.Meaning.{Meaning}
 use Rattle.cobs.specs.declared.Meaning.the-variants.{InTable, NotAgreed, NoCode}
-use Rattle.cobs.proofs.Tests.{decide}
-use Rattle.link.specs.Agreed.{Agreed, agreed, leastFrame, mostDecoded, valid}
+use Rattle.cobs.proofs.Tests.{branch, decide}
+use Rattle.plain.specs.declared.Taken.{Taken}
+use Rattle.plain.specs.declared.Taken.the-variants.{Removed, Escape, Data}
+use Rattle.plain.specs.Stuffing.{taken}
+use Rattle.link.specs.Agreed.{Agreed, agreed, leastFrame, largestFrame, mostDecoded, valid}
 use Rattle.link.specs.Answers.{Answer, done, octet, idle, quiet, packet, held, refused}
-use Rattle.link.specs.Receiver.{Fragment, nothingHeld, holds, Receiver, Working, ReceiverEnd, Receive, Ended, withDue, step2BeginBlock, isNoBlock, isD0, inBounds, step4Remember, step4Refuse, step3Write, step3Decode, step3Data, lastBlock, step2ByMeaning, step2Code, letGo, step1ResumeHeld, step1D1, step1FirstOctet, steps1To4, step5End, step5Hold, step5WithoutPhantom, step5Flag, atFlag, areaOf, work, aside, putBack, flagged, receive}
+use Rattle.link.specs.Receiver.{Fragment, nothingHeld, holds, plain, Receiver, Working, ReceiverEnd, Receive, Ended, withDue, step2BeginBlock, isNoBlock, isD0, isPlain, isEscaped, inBounds, step4Remember, step4Refuse, step3Write, step3Decode, step3Data, lastBlock, step2ByMeaning, step2Code, letGo, step1ResumeHeld, step1D1, step1FirstOctet, steps1To4, step5End, step5Hold, step5WithoutPhantom, step5Flag, atFlag, inPlainFrame, plainData, plainTaken, plainOctet, plainFlag, atPlainFlag, beginsPlain, beginPlain, areaOf, work, aside, putBack, flagged, quietly, receive}
+use Rattle.link.specs.ReceiverParts.{ReceiverReady}
 use Rattle.link.specs.Runs.{receives, standsFor}
 use Rattle.link.specs.Demands.{heldOctets, Alike, AreasLongEnough, reportAndPacket, AreasAside}
-use Rattle.link.proofs.Tests.{not-not}
+use Rattle.link.proofs.Tests.{not-not, none-short}
 use Rattle.link.proofs.Write.{length-write, take-write}
-use Rattle.link.proofs.ReceiverCases.{not-valid}
-use Rattle.link.proofs.ReceiverBounds.{Bounds, bounds, by-end, Ready, area-long, receive-flag, receive-other, receive-ready}
+use Rattle.link.proofs.Cobs.{cobsReceive, in-plain, begins, in-cobs}
+use Rattle.link.proofs.ReceiverCases.{not-valid, out-of-bounds}
+use Rattle.link.proofs.ReceiverBounds.{Bounds, bounds, counts, by-end}
+use Rattle.link.proofs.Whole.{passes, by-ready}
 use Rattle.link.proofs.Follow.{work-back, aside-back}
 
 -- a choice in two places by one test
@@ -192,6 +198,41 @@ module _ (g : Agreed) (s : Receiver) (a₁ a₂ b₁ b₂ : List ℕ) (alike : A
         (λ _. branch₂ Both (ltb 0 (s .left)) (λ _. stays-both _ _ (data-stays g s wa wb la lb eq d x))
         (λ _. stays-both _ _ (code-stays g s wa wb la lb eq d x))))
 
+  -- in plain PPP, from a state with the same turn, held and count
+  module _ (la : mostDecoded g ≤ length (work e .area)) (lb : mostDecoded g ≤ length (work f .area)) (deep : s .decoded ≤ mostDecoded g) where
+    data-both : (y : ℕ) → Both (plainData g y (work e)) (plainData g y (work f))
+    unfolding plainData
+    data-both y =
+        let wa = work e .area in
+        let wb = work f .area in
+        let r = inPlainFrame plain s in
+        branch₂ Both (ltb (largestFrame g) (s .decoded + 1)) (λ _. stays-both _ _ (refuse-stays g s wa wb la lb (alike .decoded) deep r 10 refl refl refl))
+        (λ k. stays-both _ _ (write-stays g s wa wb la lb (alike .decoded) deep r (y ∷ []) refl refl refl (let room : s .decoded + 1 ≤ largestFrame g = ltb-false _ _ k in omega arith)))
+
+    taken-both : (t : Taken) → Both (plainTaken g (work e) t) (plainTaken g (work f) t)
+    unfolding plainTaken
+    taken-both Removed = stays-both _ _ (record { same = refl; turn = refl; same-held = λ _ _ q. q; decoded = alike .decoded })
+    taken-both Escape = stays-both _ _ (record { same = refl; turn = refl; same-held = λ _ _ q. q; decoded = alike .decoded })
+    taken-both (Data y) = data-both y
+
+    plain-both : (x : ℕ) → Both (plainOctet g (work e) x) (plainOctet g (work f) x)
+    unfolding plainOctet
+    plain-both x =
+        branch₂ Both (not (eqb (s .refusal) 0)) (λ _. stays-both _ _ (record { same = refl; turn = refl; same-held = λ _ _ q. q; decoded = alike .decoded }))
+        (λ _. taken-both (taken (s .map) (isEscaped (s .mode)) x))
+
+    -- what is held is let go
+    begin-both : Both (beginPlain g (work e)) (beginPlain g (work f))
+    unfolding beginPlain plainData
+    begin-both =
+        let wa = work e .area in
+        let wb = work f .area in
+        let r = inPlainFrame plain (letGo s) in
+        let go : (w v : Working) → Stays (letGo s) w v → Stays s w v =
+        (λ w v k. record { same = k .same; turn = k .turn; same-held = λ a b _. k .same-held a b refl; decoded = k .decoded }) in
+        branch₂ Both (ltb (largestFrame g) (s .decoded + 1)) (λ _. stays-both _ _ (go _ _ (refuse-stays g (letGo s) wa wb la lb (alike .decoded) deep r 10 refl refl refl)))
+        (λ k. stays-both _ _ (go _ _ (write-stays g (letGo s) wa wb la lb (alike .decoded) deep r (0xFF ∷ []) refl refl refl (let room : s .decoded + 1 ≤ largestFrame g = ltb-false _ _ k in omega arith))))
+
   -- ---- a flag
 
   record FlagAlike (t u : Ended) : Type 0 where
@@ -237,6 +278,15 @@ module _ (g : Agreed) (s : Receiver) (a₁ a₂ b₁ b₂ : List ℕ) (alike : A
   flag-alike =
       branch₂ FlagAlike (s .framed) (λ _. step5-alike) (λ _. record { same = refl; says = refl; after = alike })
 
+  plain-alike : FlagAlike (atPlainFlag g s (work e .area)) (atPlainFlag g s (work f .area))
+  unfolding atPlainFlag plainFlag
+  plain-alike =
+      branch₂ FlagAlike (s .framed)
+      (λ _. branch₂ FlagAlike (not (eqb (s .refusal) 0)) (λ _. ends-alike (refused (s .refusal)) refl)
+      (λ _. branch₂ FlagAlike (ltb (largestFrame g) (s .decoded)) (λ _. ends-alike (refused 10) refl)
+      (λ _. branch₂ FlagAlike (isEscaped (s .mode)) (λ _. ends-alike (refused 18) refl) (λ _. without-phantom-alike (s .decoded) (omega arith)))))
+      (λ _. record { same = refl; says = refl; after = alike })
+
 -- ---- the calls
 
 -- what a report stands for is in the areas, whatever the state
@@ -249,17 +299,6 @@ stands-by-areas quiet s r first second = refl
 stands-by-areas (packet b n) s r first second = refl
 stands-by-areas (held n b) s r first second = refl
 stands-by-areas (refused n) s r first second = refl
-
--- a state out of bounds
-refused-3 : (e : ReceiverEnd) → valid (agreed (e .state .settings)) ≡ true → AreasLongEnough e → inBounds (agreed (e .state .settings)) (e .state) ≡ false → (x : ℕ) → receive e x ≡ record { report = refused 3; after = e }
-unfolding receive
-refused-3 e v l out x =
-    rw (
-      v,
-      le-ltb (length (e .first)) (mostDecoded (agreed (e .state .settings))) (l .first),
-      le-ltb (length (e .second)) (mostDecoded (agreed (e .state .settings))) (l .second),
-      out,
-    )
 
 record Pair (h k : Receive) : Type 0 where
   tell : reportAndPacket h ≡ reportAndPacket k
@@ -276,42 +315,51 @@ module _ (s : Receiver) (a₁ a₂ b₁ b₂ : List ℕ) where
   g = agreed (s .settings)
 
   module _ (alike : Alike one two) where
-    pair-flag : Ready g one → Ready g two → Pair (receive one flag) (receive two flag)
-    pair-flag z y =
-        let t = atFlag g s (work one .area) in
-        let k = flag-alike g s a₁ a₂ b₁ b₂ alike in
+    pair-flag : (t u : Ended) → FlagAlike g s a₁ a₂ b₁ b₂ alike t u → Pair (flagged one t) (flagged two u)
+    pair-flag t u k =
         let says : standsFor (t .report) (flagged two t .after) ≡ standsFor (t .report) (flagged one t .after) =
         stands-by-areas (t .report) (t .state) s b₁ b₂ ∙ (k .says ∙ stands-by-areas (t .report) s (t .state) a₁ a₂) in
-        rw (receive-flag g one z, receive-flag g two y, k .same)
-        (record { tell = ap (λ (o : Option (List ℕ)). record { report = t .report; packet = o }) (sym says); after = k .after })
+        rw (k .same) (record { tell = ap (λ (o : Option (List ℕ)). record { report = t .report; packet = o }) (sym says); after = k .after })
 
-    pair-other : Ready g one → Ready g two → (x : ℕ) → (x ≡ flag → ⊥) → Pair (receive one x) (receive two x)
-    pair-other z y x h =
-        let k = steps-both g s a₁ a₂ b₁ b₂ alike (area-long g one z (s .turn)) (area-long g two y (s .turn)) (z .bounds) (fromLine x) in
-        rw (receive-other g one z x h, receive-other g two y x h) (record { tell = refl; after = k .after })
+    pair-octet : (w v : Working) → Both g s a₁ a₂ b₁ b₂ alike w v → Pair (quietly one w) (quietly two v)
+    pair-octet w v k = record { tell = refl; after = k .after }
+
+    module _ (z : ReceiverReady one) (y : ReceiverReady two) (x : ℕ) where
+      la : mostDecoded g ≤ length (work one .area)
+      la = branch (λ l. mostDecoded g ≤ length l) (s .turn) (λ _. z .second) (λ _. z .first)
+
+      lb : mostDecoded g ≤ length (work two .area)
+      lb = branch (λ l. mostDecoded g ≤ length l) (s .turn) (λ _. y .second) (λ _. y .first)
+
+      pair-ready : Pair (receive one x) (receive two x)
+      unfolding cobsReceive
+      pair-ready =
+          let deep = counts g s (z .bounds) .deep in
+          decide (isPlain (s .mode))
+          (λ p.
+          rw (in-plain one x z p, in-plain two x y p)
+          (branch₂ Pair (eqb x flag) (λ _. pair-flag _ _ (plain-alike g s a₁ a₂ b₁ b₂ alike)) (λ _. pair-octet _ _ (plain-both g s a₁ a₂ b₁ b₂ alike la lb deep x))))
+          (λ p. decide (beginsPlain s x) (λ b. rw (begins one x z p b, begins two x y p b) (pair-octet _ _ (begin-both g s a₁ a₂ b₁ b₂ alike la lb deep)))
+          (λ b.
+          rw (in-cobs one x z p b, in-cobs two x y p b)
+          (branch₂ Pair (eqb x flag) (λ _. pair-flag _ _ (flag-alike g s a₁ a₂ b₁ b₂ alike))
+          (λ _. pair-octet _ _ (steps-both g s a₁ a₂ b₁ b₂ alike la lb (bounds g s p (z .bounds)) (fromLine x))))))
 
     pair : AreasLongEnough one → AreasLongEnough two → (x : ℕ) → Pair (receive one x) (receive two x)
     pair l m x =
         decide (valid g)
         (λ v. decide (inBounds g s)
         (λ k.
-        let z : Ready g one = record { agrees = refl; valid = v; bounds = bounds g s k; first = l .first; second = l .second } in
-        let y : Ready g two = record { agrees = refl; valid = v; bounds = bounds g s k; first = m .first; second = m .second } in
-        decide (eqb x flag) (λ q. rw (eqb-true x flag q) (pair-flag z y)) (λ q. pair-other z y x (eqb-false x flag q)))
-        (λ k. rw (refused-3 one v l k x, refused-3 two v m k x) (record { tell = refl; after = alike })))
+        pair-ready (record { valid = v; first = l .first; second = l .second; bounds = k }) (record { valid = v; first = m .first; second = m .second; bounds = k }) x)
+        (λ k.
+        rw (out-of-bounds one x v (none-short _ _ _ (l .first, l .second)) k, out-of-bounds two x v (none-short _ _ _ (m .first, m .second)) k)
+        (record { tell = refl; after = alike })))
         (λ v. rw (not-valid one x v, not-valid two x v) (record { tell = refl; after = alike }))
 
 -- areas that are long enough stay so
 lent-on : (e : ReceiverEnd) (x : ℕ) → AreasLongEnough e → AreasLongEnough (receive e x .after)
 lent-on e x l =
-    let t = agreed (e .state .settings) in
-    decide (valid t)
-    (λ v. decide (inBounds t (e .state))
-    (λ k.
-    let z = receive-ready t e x (record { agrees = refl; valid = v; bounds = bounds t (e .state) k; first = l .first; second = l .second }) in
-    record { first = rw (z .agrees) (z .first); second = rw (z .agrees) (z .second) })
-    (λ k. rw (refused-3 e v l k x) l))
-    (λ v. rw (not-valid e x v) l)
+    by-ready (λ h. AreasLongEnough (h .after)) e x (λ _ _ _. l) (λ a. let z = passes e x a .ready in record { first = z .first; second = z .second })
 
 pub areas-aside : AreasAside
 unfolding receives

@@ -1,34 +1,34 @@
 -- Areas changed behind the receiver's back: a D1 finds out, and refuses 21; with areas that nobody else writes 21 is never reported.
 use mathlib.Core.Path.{_≡_, refl, sym, ap, subst, _∙_}
-use mathlib.Core.Bool.{Bool, true, false, not, _&&_, _||_}
+use mathlib.Core.Bool.{Bool, true, false, not, _&&_}
 use mathlib.Core.List.{List, [], _∷_, map, List·Memᴰ, List·Memᴰ·not-nil, List·Memᴰ·cases-cons}
 use mathlib.Core.Logic.{⊎-elim}
 use Prim.Native.Nat.{ℕ, _^_, _≤_}
 use native.Mathlib.Omega.{arith}
 use borrow.Author.Tests.{eqb-true, eqb-false, ne-eqb}
-use lib.Dec.{ltb, eqb}
-use lib.ListN.{length, take}
+use lib.Dec.{eqb}
+use lib.ListN.{take}
 use lib.Pow.{pow-pos}
 use Rattle.fcs.specs.CheckSequence.{width, register, Burst}
 use Rattle.fcs.proofs.Laws.{register-none}
 use Rattle.fcs.proofs.Bursts.{bursts-change}
 use Rattle.cobs.specs.CodeBlocks.{flag, fromLine}
 use Rattle.cobs.proofs.Tests.{branch, decide}
-use Rattle.link.specs.Agreed.{Agreed, agreed, valid, mostDecoded}
+use Rattle.link.specs.Agreed.{Settings, Agreed, agreed}
 use Rattle.link.specs.Answers.{quiet, refused}
-use Rattle.link.specs.Receiver.{Fragment, nothingHeld, holds, Receiver, ReceiverEnd, Receive, carried, letGo, inBounds, step4Remember, step1ResumeHeld, step1D1, isHeld, areaOf, aside, receive}
+use Rattle.link.specs.Receiver.{Fragment, nothingHeld, holds, PlainReading, readingOff, readingOn, Receiver, ReceiverEnd, Receive, isPlain, carried, letGo, inBounds, step4Remember, step1ResumeHeld, step1D1, isHeld, areaOf, aside, receive}
 use Rattle.link.specs.ReceiverParts.{ReceiverReady}
 use Rattle.link.specs.Runs.{receives, received}
 use Rattle.link.specs.EachCall.{HeldThen, NotHeldThen}
-use Rattle.link.specs.Demands.{freshReceiver, heldOctets, cleared, octetsHeld, Unchanged, HasToResume, NeverChanged, AreasChanged}
-use Rattle.link.proofs.Tests.{if-so, if-not, true-false, not-not, not-below}
+use Rattle.link.specs.Demands.{freshReceiver, heldOctets, cleared, octetsHeld, Unchanged, OutOfCobsFrame, HasToResume, NeverChanged, AreasChanged}
+use Rattle.link.proofs.Tests.{if-so, if-not, true-false, not-not}
 use Rattle.link.proofs.Agreed.{sound-check}
-use Rattle.link.proofs.ReceiverBounds.{bounds, HeldOk, Ready, receive-flag}
-use Rattle.link.proofs.ReceiverCases.{not-valid, too-short, out-of-bounds}
-use Rattle.link.proofs.ReadOn.{ready-of}
-use Rattle.link.proofs.Within.{flag-refuses}
-use Rattle.link.proofs.EachCall.{NoLongerGives, octet-changed, resumed-by-D1, receives-so, settings-stay}
-use Rattle.link.proofs.Restart.{becomes, D1-becomes, refused-first}
+use Rattle.link.proofs.ReceiverBounds.{counts, out-fresh, HeldOk}
+use Rattle.link.proofs.Remembers.{NoLongerGives}
+use Rattle.link.proofs.Whole.{by-ready}
+use Rattle.link.proofs.Within.{call-refuses}
+use Rattle.link.proofs.EachCall.{octet-changed, resumed-by-D1, receives-so, settings-stay}
+use Rattle.link.proofs.Restart.{becomes, D1-becomes, refused-first, over-cleared}
 
 -- ---- a D1 with something held
 
@@ -45,23 +45,23 @@ module _ (e : ReceiverEnd) (h : HasToResume e) where
   abbrev g : Agreed
   g = agreed (e .state .settings)
 
-  z : Ready g e
-  z = ready-of e (h .ready)
+  abbrev at : OutOfCobsFrame e
+  at = h .at
 
   D1-refused : (f : Fragment) → isHeld f ≡ true → (Gives g (aside e) f → ⊥) → step1ResumeHeld g (aside e) f (e .state) ≡ step4Remember 21 true (letGo (e .state))
   unfolding step1ResumeHeld
   D1-refused nothingHeld some c = true-false (sym some)
   D1-refused (holds n k) some c = if-not _ _ _ (ne-eqb _ k c)
 
-  at-once : (Unchanged e → ⊥) → receive e 0xD1 ≡ record { report = quiet; after = becomes g e z (h .out) (step4Remember 21 true (cleared e .state)) }
+  at-once : (Unchanged e → ⊥) → receive e 0xD1 ≡ record { report = quiet; after = becomes e at (step4Remember 21 true (cleared e .state)) }
   unfolding step1D1
   at-once c =
-      let o = z .bounds .out (h .out) in
-      D1-becomes g e z (h .out) _ (if-so _ _ _ (h .pre) ∙ D1-refused (e .state .held) (h .some) c)
+      let o = out-fresh g (e .state) (counts g (e .state) (at .ready .bounds)) (at .out) in
+      D1-becomes e at _ (if-so _ _ _ (h .pre) ∙ D1-refused (e .state .held) (h .some) c)
       ∙ rw (o .decoded·0)
 
   frame-21 : (Unchanged e → ⊥) → (rest : List ℕ) → (List·Memᴰ flag rest → ⊥) → receive (received e (0xD1 ∷ rest)) flag ≡ record { report = refused 21; after = cleared e }
-  frame-21 c rest none = refused-first g e z (h .out) 0xD1 21 _ (λ q. omega arith) (at-once c) refl refl (λ q. omega arith) rest none
+  frame-21 c rest none = refused-first e at 0xD1 21 _ (at-once c) (at .cobs) refl refl (λ q. omega arith) rest none ∙ over-cleared e at 21 true
 
 -- ---- in a run
 
@@ -83,10 +83,6 @@ module _ (e : ReceiverEnd) (k : Still e) where
   abbrev t : Agreed
   t = agreed (e .state .settings)
 
-  -- a call that is refused
-  refused-still : (x n : ℕ) → n ≤ 3 → receive e x ≡ record { report = refused n; after = e } → Calls (receive e x)
-  refused-still x n h is = rw is (record { still = k; tells = λ q. let m : n ≡ 21 = cc in omega arith })
-
   module _ (a : ReceiverReady e) (x : ℕ) where
     abbrev d : ReceiverEnd
     d = receive e x .after
@@ -97,30 +93,31 @@ module _ (e : ReceiverEnd) (k : Still e) where
     -- ---- an octet that is no flag
 
     module _ (other : x ≡ flag → ⊥) where
-      takes : (e .state .framed ≡ false → fromLine x ≡ 0xD1 → t .pre ≡ true → e .state .held ≡ nothingHeld) → Unchanged d
+      takes : (isPlain (e .state .mode) ≡ false → e .state .framed ≡ false → fromLine x ≡ 0xD1 → t .pre ≡ true → e .state .held ≡ nothingHeld) → Unchanged d
       takes none =
           let m = receives-so .takesIn e a x other none in
           let same : aside d ≡ aside e = ap (λ (b : Bool). areaOf (not b) d) (m .turn) ∙ m .other in
           kept _ (m .held)
-          (rw same (branch (Gives t (aside e)) (not (e .state .framed) && eqb (fromLine x) 0xFF) (λ _. register-none (t .check)) (λ _. k .unchanged)))
+          (rw same (branch (Gives t (aside e)) (not (isPlain (e .state .mode)) && not (e .state .framed) && eqb (fromLine x) 0xFF) (λ _. register-none (t .check)) (λ _. k .unchanged)))
 
-      by-held : e .state .framed ≡ false → fromLine x ≡ 0xD1 → t .pre ≡ true → (f : Fragment) → e .state .held ≡ f → Unchanged d
-      by-held out is pre nothingHeld q = takes (λ _ _ _. q)
-      by-held out is pre (holds n c) q =
-          let m = resumed-by-D1 t e (ready-of e a) out pre n c q (subst (Gives t (aside e)) q (k .unchanged)) x other is in
+      by-held : isPlain (e .state .mode) ≡ false → e .state .framed ≡ false → fromLine x ≡ 0xD1 → t .pre ≡ true → (f : Fragment) → e .state .held ≡ f → Unchanged d
+      by-held cobs·read out is pre nothingHeld q = takes (λ _ _ _ _. q)
+      by-held cobs·read out is pre (holds n c) q =
+          let m = resumed-by-D1 e a cobs·read out pre n c q (subst (Gives t (aside e)) q (k .unchanged)) x other is in
           kept nothingHeld (m .held) (register-none (t .check))
 
       octet-unchanged : Unchanged d
       octet-unchanged =
-          decide (e .state .framed) (λ f. takes (λ out. true-false (sym f ∙ out)))
+          decide (isPlain (e .state .mode)) (λ m. takes (λ no. true-false (sym m ∙ no)))
+          (λ m. decide (e .state .framed) (λ f. takes (λ _ out. true-false (sym f ∙ out)))
           (λ f. decide (eqb (fromLine x) 0xD1)
-          (λ i. decide (t .pre) (λ p. by-held f (eqb-true _ _ i) p (e .state .held) refl) (λ p. takes (λ _ _ q. true-false (sym q ∙ p))))
-          (λ i. takes (λ _ q _. absurd (eqb-false _ _ i q))))
+          (λ i. decide (t .pre) (λ p. by-held m f (eqb-true _ _ i) p (e .state .held) refl) (λ p. takes (λ _ _ _ q. true-false (sym q ∙ p))))
+          (λ i. takes (λ _ _ q _. absurd (eqb-false _ _ i q)))))
 
       octet-not-21 : d .state .refusal ≡ 21 → ⊥
       octet-not-21 q =
           decide (eqb (e .state .refusal) 0)
-          (λ c. not-given t (aside e) (e .state .held) (k .unchanged) (octet-changed t e (ready-of e a) (eqb-true _ _ c) x other q))
+          (λ c. not-given t (aside e) (e .state .held) (k .unchanged) (octet-changed e a (eqb-true _ _ c) x other q))
           (λ c. k .not·21 (ap (λ (f : ReceiverEnd). f .state .refusal) (sym (receives-so .skipped e a (eqb-false _ _ c) x other)) ∙ q))
 
       octet-still : Calls (receive e x)
@@ -169,7 +166,7 @@ module _ (e : ReceiverEnd) (k : Still e) where
           tells =
               λ q.
               ⊎-elim (λ c. k .not·21 (c .0)) (λ c. omega (arith, c .1))
-              (flag-refuses t (e .state) _ 21 (sym (ap (λ (h : Receive). h .report) (receive-flag t e (ready-of e a))) ∙ q));
+              (call-refuses e a 21 q);
         }
 
     ready-still : (x : ℕ) → Calls (receive e x)
@@ -178,15 +175,7 @@ module _ (e : ReceiverEnd) (k : Still e) where
   -- ---- any call
 
   call-still : (x : ℕ) → Calls (receive e x)
-  call-still x =
-      let most = mostDecoded t in
-      decide (valid t)
-      (λ v. decide (ltb (length (e .first)) most || ltb (length (e .second)) most) (λ s. refused-still x 2 (omega arith) (too-short e x v s))
-      (λ s. decide (inBounds t (e .state))
-      (λ b. let long = not-below (length (e .first)) most (length (e .second)) most s in
-      ready-still (record { valid = v; first = long .0; second = long .1; bounds = b }) x)
-      (λ b. refused-still x 3 (omega arith) (out-of-bounds e x v s b))))
-      (λ v. refused-still x 3 (omega arith) (not-valid e x v))
+  call-still x = by-ready Calls e x (λ n _ h. record { still = k; tells = λ q. let m : n ≡ 21 = cc in omega arith }) (λ a. ready-still a x)
 
 -- ---- and any list of them
 
@@ -210,7 +199,7 @@ never-changed e u n line =
 
 only-changed : (e : ReceiverEnd) → HasToResume e → (rest : List ℕ) → receive (received e (0xD1 ∷ rest)) flag .report ≡ refused 21 → Unchanged e → ⊥
 only-changed e h rest q u =
-    let k : Still e = record { unchanged = u; not·21 = λ n. omega (arith, z e h .bounds .out (h .out) .refusal·0) } in
+    let k : Still e = record { unchanged = u; not·21 = λ n. omega (arith, out-fresh _ (e .state) (counts _ (e .state) (h .at .ready .bounds)) (h .at .out) .refusal·0) } in
     call-still (received e (0xD1 ∷ rest)) (stills (0xD1 ∷ rest) e k) flag .tells q
 
 -- two registers that are one
@@ -226,9 +215,13 @@ too-wide r n k h wide =
     let g = agreed (r .settings) in
     decide (inBounds g r)
     (λ b.
-    let ok : HeldOk g (holds n k) = subst (HeldOk g) h (bounds g r b .holds) in
+    let ok : HeldOk g (holds n k) = subst (HeldOk g) h (counts g r b .holds) in
     absurd (omega (arith, ok .1, pow-pos (width (g .check)))))
     (λ b. b)
+
+fresh-never : (t : Settings) (reading : PlainReading) (a b line : List ℕ) → NeverChanged (freshReceiver t reading a b) line
+fresh-never t readingOff a b line = never-changed (freshReceiver t readingOff a b) (register-none (agreed t .check)) (λ q. omega arith) line
+fresh-never t (readingOn map) a b line = never-changed (freshReceiver t (readingOn map) a b) (register-none (agreed t .check)) (λ q. omega arith) line
 
 pub areas-changed : AreasChanged
 areas-changed =
@@ -237,7 +230,7 @@ areas-changed =
       frame = frame-21;
       only = only-changed;
       run = never-changed;
-      fresh = λ t a b line. never-changed (freshReceiver t a b) (register-none (agreed t .check)) (λ q. omega arith) line;
+      fresh = fresh-never;
       burst = λ e f u same h b rest none. ap (λ (r : Receive). r .report) (frame-21 f h (by-burst e f u same b) rest none);
       bounds = too-wide;
     }

@@ -15,7 +15,7 @@ use Rattle.link.specs.Agreed.{Settings, Agreed, agreed, leastPacket, lar
 use Rattle.link.specs.Answers.{idle}
 use Rattle.link.specs.Sender.{Lane, low, high, LaneState, Out, closes, breaksOff, sends, sendsNothing, refuses, laneState, laneArea, outAnswer, loaded, Load, next, putFrame, load}
 use Rattle.link.specs.SenderParts.{SenderReady}
-use Rattle.link.specs.Receiver.{Receive}
+use Rattle.link.specs.Receiver.{PlainReading, Receive}
 use Rattle.link.specs.Runs.{Station, Written, SenderCall, loading, nextOctet, freshStation, lanePacket, lanesAfter, sameLane, isDone, loadedBy, afterLoad, afterNext, run, loadedInto, writes, written, writtenOctets, sentBy, atTrue, receives, packetIn, present, packetsIn, closedBy, closedPackets}
 use Rattle.link.specs.Progress.{BothEmpty, callsToEmpty, BeginsNext, nextCalls, SendsOf, PacketUninterrupted}
 use Rattle.link.specs.Demands.{freshReceiver, LongEnough, NothingLoadedIsLost, Delivery}
@@ -130,12 +130,12 @@ next-calls (suc n) = rw (next-calls n) (add-one n)
 ready-fresh : (t : Settings) → valid (agreed t) ≡ true → (al ah : List ℕ) → largestFrame (agreed t) ≤ length al → largestFrame (agreed t) ≤ length ah → SenderReady (freshStation t al ah .end)
 ready-fresh t v al ah h k = record { valid = v; low = h; high = k; bounds = bounds.in-bounds (agreed t) _ (sound-fresh t al ah .in·bounds) }
 
-module _ (t : Settings) (v : valid (agreed t) ≡ true) (al ah first second : List ℕ) (long : LongEnough t al ah first second) where
+module _ (t : Settings) (reading : PlainReading) (v : valid (agreed t) ≡ true) (al ah first second : List ℕ) (long : LongEnough t al ah first second) where
   abbrev fresh : Station
   fresh = freshStation t al ah
 
   abbrev calls·for : List SenderCall → List Receive
-  calls·for cs = receives (freshReceiver t first second) (writtenOctets (written fresh cs))
+  calls·for cs = receives (freshReceiver t reading first second) (writtenOctets (written fresh cs))
 
   ready : SenderReady (fresh .end)
   ready = ready-fresh t v al ah (long .low) (long .high)
@@ -147,7 +147,7 @@ module _ (t : Settings) (v : valid (agreed t) ≡ true) (al ah first second : Li
       let hs = calls·for cs in
       ap present
       (map-at-true packetIn (sentBy l es) hs
-      ∙ (ap (atTrue (sentBy l es)) (each-packet false es hs (sound-line t v al ah first second (long .first) (long .second) cs .each)) ∙ closings-at-true (sentBy l es) es))
+      ∙ (ap (atTrue (sentBy l es)) (each-packet false es hs (sound-line t reading v al ah first second (long .first) (long .second) cs .each)) ∙ closings-at-true (sentBy l es) es))
 
   module _ (cs : List SenderCall) (n : ℕ) (enough : callsToEmpty (run fresh cs .end .state) ≤ n) where
     abbrev all : List SenderCall
@@ -177,10 +177,10 @@ module _ (t : Settings) (v : valid (agreed t) ≡ true) (al ah first second : Li
     reported : (l : Lane) → packetsIn (atTrue (sentBy l (written fresh all)) (calls·for all)) ≡ loadedInto l fresh cs
     reported l = told l all ∙ all-closed l
 
-pub nothing-lost : (settings : Settings) → valid (agreed settings) ≡ true → NothingLoadedIsLost settings
-nothing-lost t v al ah first second long calls n enough = (
-  ends-idle t v al ah first second long calls n enough,
-  reported t v al ah first second long calls n enough,
+pub nothing-lost : (settings : Settings) (reading : PlainReading) → valid (agreed settings) ≡ true → NothingLoadedIsLost settings reading
+nothing-lost t reading v al ah first second long calls n enough = (
+  ends-idle t reading v al ah first second long calls n enough,
+  reported t reading v al ah first second long calls n enough,
 )
 
 -- ---- one packet
@@ -315,13 +315,13 @@ module _ (t : Settings) (v : valid (agreed t) ≡ true) (al ah : List ℕ) (h : 
 pub packet-uninterrupted : PacketUninterrupted
 packet-uninterrupted t v al ah h k l p big small n = sends-it t v al ah h k p big small l n
 
-pub delivery : (settings : Settings) → valid (agreed settings) ≡ true → Delivery settings
-delivery t v al ah first second long l p big small =
+pub delivery : (settings : Settings) (reading : PlainReading) → valid (agreed settings) ≡ true → Delivery settings reading
+delivery t reading v al ah first second long l p big small =
     let n = length (frame (agreed t .check) p) in
     let k = n + 1 + n / 207 + 1 in
     let calls = loading l p ∷ [] in
     let enough = calls-it t v al ah (long .low) (long .high) p big small l in
-    let closed = all-closed t v al ah first second long calls k enough in
-    sound-line t v al ah first second (long .first) (long .second) (calls ++ replicate k nextOctet) .packets
+    let closed = all-closed t reading v al ah first second long calls k enough in
+    sound-line t reading v al ah first second (long .first) (long .second) (calls ++ replicate k nextOctet) .packets
     ∙ (one-lane l (written (freshStation t al ah) (calls ++ replicate k nextOctet)) (closed (other l) ∙ loads-no-other t v al ah (long .low) (long .high) p big small l)
     ∙ (closed l ∙ loads-it t v al ah (long .low) (long .high) p big small l))

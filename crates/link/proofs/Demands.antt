@@ -11,13 +11,19 @@ use Rattle.fcs.specs.CheckSequence as check
 use Rattle.cobs.specs.CodeBlocks.{flag}
 use Rattle.link.specs.Agreed.{Settings, Agreed, agreed, mostDecoded, valid}
 use Rattle.link.specs.Answers.{Answer, done, octet, idle, quiet, packet, held, refused}
-use Rattle.link.specs.Sender.{Lane, low, high, OnLine, noLane, sending, LaneState, Out, closes, breaksOff, sends, sendsNothing, refuses, next}
-use Rattle.link.specs.Receiver.{ReceiverEnd, Receive, isHeld, receive}
+use Rattle.link.specs.Sender.{Lane, low, high, OnLine, noLane, sending, LaneState, Out, closes, breaksOff, sends, sendsNothing, refuses, outAnswer, next}
+use Rattle.link.specs.Receiver.{PlainReading, readingOff, readingOn, ReceiverEnd, Receive, isHeld, isPlain, receive}
 use Rattle.link.specs.Receiver as receiver
-use Rattle.link.specs.Runs.{Station, Written, SenderCall, loading, nextOctet, freshStation, writes, written, writtenOctets, atTrue, atFalse, receives, received, packetIn, refusalIn, refusalOf, standsFor, present, refusalsIn, underWay, endsItsFrame, asideAfter, leftAside, replacesAfter, AllArrive, ExpectedReport, AllAsExpected, closedBy, run, afterLoad, afterNext}
-use Rattle.link.specs.Demands.{freshReceiver, PacketsComeThrough, SoundLine, Demand3}
+use Rattle.link.specs.ReceiverParts.{ReceiverReady}
+use Rattle.link.specs.Runs.{receives, received, Station, Written, SenderCall, loading, nextOctet, freshStation, writes, written, writtenOctets, atTrue, atFalse, packetIn, refusalIn, refusalOf, standsFor, present, refusalsIn, underWay, endsItsFrame, asideAfter, leftAside, replacesAfter, AllArrive, ExpectedReport, AllAsExpected, closedBy, run, afterLoad, afterNext}
+use Rattle.link.specs.Demands.{freshReceiver, PacketsComeThrough, SoundLine, AfterChosenFlag, frameBeganFF, Demand3}
+use Rattle.link.proofs.Cobs.{cobsReceive, cobsReceives, in-cobs}
 use Rattle.link.proofs.Agreed.{sound-check}
-use Rattle.link.proofs.ReceiverBounds.{Ready, out-of-frame-in, flag-ends, receive-ready}
+use Rattle.link.proofs.ReceiverBounds.{Ready, fresh-in, in-bounds}
+use Rattle.link.proofs.Whole.{ready-of, passes}
+use Rattle.link.proofs.Stays.{receive-settings, run-settings, fresh-settings, flag-begins}
+use Rattle.link.proofs.AsCobs.{cobs-mode, as-cobs}
+use Rattle.link.proofs.FirstOctets.{never-FF}
 use Rattle.link.proofs.Way.{sender}
 use Rattle.link.proofs.Sound.{station, Sound, sound-fresh, sound-run, sound-load, sound-next}
 use Rattle.link.proofs.Lock.{HeldLow, Lock, Answered, Leads, lock-next, lock-load}
@@ -35,9 +41,9 @@ AllAnswered m b s (x ∷ es) (h ∷ hs) = Answered m b s x h × AllAnswered m (a
 -- an octet is written or not, and the rest is answered
 writes-answered : (g : Agreed) (m : Option (List ℕ)) (b s : Bool) (o : Out) (w w′ : Station) (es : List Written) (e : ReceiverEnd)
     → Leads g m b s o (w .lanes) (w .end .state .low .position) w′ e
-    → ((b′ s′ : Bool) (e′ : ReceiverEnd) → Lock g m b′ s′ w′ e′ → AllAnswered m b′ s′ es (receives e′ (writtenOctets es)))
-    → AllAnswered m b s (writes o w es) (receives e (writtenOctets (writes o w es)))
-unfolding receives
+    → ((b′ s′ : Bool) (e′ : ReceiverEnd) → Lock g m b′ s′ w′ e′ → AllAnswered m b′ s′ es (cobsReceives e′ (writtenOctets es)))
+    → AllAnswered m b s (writes o w es) (cobsReceives e (writtenOctets (writes o w es)))
+unfolding cobsReceives
 writes-answered g m b s (closes a) w w′ es e l f = (l .0, f _ _ _ (l .1))
 writes-answered g m b s breaksOff w w′ es e l f = (l .0, f _ _ _ (l .1))
 writes-answered g m b s (sends a x) w w′ es e l f = (l .0, f _ _ _ (l .1))
@@ -45,8 +51,8 @@ writes-answered g m b s sendsNothing w w′ es e l f = f b s e l
 writes-answered g m b s (refuses n) w w′ es e l f = f b s e l
 
 answered : (g : Agreed) (law : check.Sound (g .check)) (m : Option (List ℕ)) (b s : Bool) (w : Station) (cs : List SenderCall) (e : ReceiverEnd)
-    → Sound g w → Lock g m b s w e → AllAnswered m b s (written w cs) (receives e (writtenOctets (written w cs)))
-unfolding written receives
+    → Sound g w → Lock g m b s w e → AllAnswered m b s (written w cs) (cobsReceives e (writtenOctets (written w cs)))
+unfolding written cobsReceives
 answered g law m b s w [] e i k = tt
 answered g law m b s w (loading l p ∷ cs) e i k =
     answered g law m b s (afterLoad l p w) cs e (sound-load g l p w i) (lock-load g m b s l p w e i k)
@@ -167,13 +173,21 @@ come-through s es hs a = record { each = a; packets = ap present (each-packet s 
 
 -- ---- the receiver before the chosen flag
 
-pub ready-fresh : (t : Settings) → valid (agreed t) ≡ true → (a b : List ℕ) → mostDecoded (agreed t) ≤ length a → mostDecoded (agreed t) ≤ length b → Ready (agreed t) (freshReceiver t a b)
-ready-fresh t v a b h k = record { agrees = refl; valid = v; bounds = out-of-frame-in (agreed t) t false receiver.nothingHeld tt; first = h; second = k }
+-- a fresh receiver, plain reading off or on: it reads COBS
+fresh-reads : (t : Settings) (reading : PlainReading) (a b : List ℕ) → isPlain (freshReceiver t reading a b .state .mode) ≡ false
+fresh-reads t readingOff a b = refl
+fresh-reads t (readingOn map) a b = refl
 
-ready-all : (g : Agreed) (e : ReceiverEnd) (xs : List ℕ) → Ready g e → Ready g (received e xs)
-unfolding received
-ready-all g e [] z = z
-ready-all g e (x ∷ xs) z = ready-all g (receive e x .after) xs (receive-ready g e x z)
+fresh-out : (t : Settings) (reading : PlainReading) (a b : List ℕ) → freshReceiver t reading a b .state .framed ≡ false
+fresh-out t readingOff a b = refl
+fresh-out t (readingOn map) a b = refl
+
+pub fresh-ready : (t : Settings) (reading : PlainReading) → valid (agreed t) ≡ true → (a b : List ℕ) → mostDecoded (agreed t) ≤ length a → mostDecoded (agreed t) ≤ length b
+    → ReceiverReady (freshReceiver t reading a b)
+fresh-ready t readingOff v a b h k =
+    record { valid = v; first = h; second = k; bounds = in-bounds _ _ refl (λ _. refl) (fresh-in (agreed t) t receiver.keptOff 0 false receiver.nothingHeld tt) }
+fresh-ready t (readingOn map) v a b h k =
+    record { valid = v; first = h; second = k; bounds = in-bounds _ _ refl (λ q. absurd (omega arith)) (fresh-in (agreed t) t receiver.cobs map false receiver.nothingHeld tt) }
 
 -- ---- at the chosen flag
 
@@ -211,40 +225,73 @@ up-to-flag t a b l before =
     none-yet low = refl
     none-yet high = refl
 
-pub demand3 : (settings : Settings) → valid (agreed settings) ≡ true → Demand3 settings
-demand3 t v·t a b first second h₁ h₂ before after noise f =
-    let g = agreed t in
-    let v = freshStation t a b in
-    let w = run v before in
-    let w₁ = afterNext w in
-    let p = w₁ .end .state in
-    let u = p .suspended in
-    let e = received (freshReceiver t first second) noise in
-    let e₁ = receive e flag .after in
-    let end = flag-ends g e (ready-all g _ noise (ready-fresh t v·t first second h₁ h₂)) in
-    let i : Sound g w = sound-run g v before (sound-fresh t a b) in
-    let off : p .on ≡ noLane = flag-off g w i f in
-    let is : underWay low false (written v (before ++ (nextOctet ∷ []))) ≡ u = up-to-flag t a b low before ∙ under-way-low (p .on) u off in
-    let k : Lock g (w₁ .lanes .low) u (not u && isHeld (e₁ .state .held)) w₁ e₁ =
-    start g (p .low) (p .high) (p .left) (p .zeros) (p .settings) (w₁ .end .low) (w₁ .end .high) (w₁ .lanes .low) (w₁ .lanes .high) e₁
-    (p .on) u (p .cut) off (end .ready) (end .out) in
-    let es = written w₁ after in
-    let hs = receives e₁ (writtenOctets es) in
-    let all = answered g (sound-check t) (w₁ .lanes .low) u (not u && isHeld (e₁ .state .held)) w₁ after e₁ (sound-next g w i) k in
-    record {
-      one = up-to-flag t a b high before ∙ under-way-high (p .on) u off;
-      suspended = is;
-      arrive = all-arrive (w₁ .lanes .low) u (not u && isHeld (e₁ .state .held)) es hs all;
-      aside = rw is (all-aside (w₁ .lanes .low) u (not u && isHeld (e₁ .state .held)) es hs all);
-      through = rw is (come-through _ _ _ (all-expected (w₁ .lanes .low) u (not u && isHeld (e₁ .state .held)) es hs all));
-    }
+-- of document 01's receiver, from the flag on
+module _ (t : Settings) (v·t : valid (agreed t) ≡ true) (a b : List ℕ) (before after : List SenderCall) (e₁ : ReceiverEnd)
+    (r : Ready (agreed t) e₁) (out : e₁ .state .framed ≡ false) where
+  abbrev v : Station
+  v = freshStation t a b
 
-pub sound-line : (settings : Settings) → valid (agreed settings) ≡ true → SoundLine settings
-sound-line t v a b first second h₁ h₂ calls =
-    let e = freshReceiver t first second in
+  after-flag : outAnswer (next (run v before .end) .out) ≡ octet flag
+      → (let w₁ = afterNext (run v before) in
+      let es = written w₁ after in
+      AfterChosenFlag (written v (before ++ (nextOctet ∷ []))) w₁ e₁ es (cobsReceives e₁ (writtenOctets es)))
+  after-flag f =
+      let g = agreed t in
+      let w = run v before in
+      let w₁ = afterNext w in
+      let p = w₁ .end .state in
+      let u = p .suspended in
+      let i : Sound g w = sound-run g v before (sound-fresh t a b) in
+      let off : p .on ≡ noLane = flag-off g w i f in
+      let is : underWay low false (written v (before ++ (nextOctet ∷ []))) ≡ u = up-to-flag t a b low before ∙ under-way-low (p .on) u off in
+      let k : Lock g (w₁ .lanes .low) u (not u && isHeld (e₁ .state .held)) w₁ e₁ =
+      start g (p .low) (p .high) (p .left) (p .zeros) (p .settings) (w₁ .end .low) (w₁ .end .high) (w₁ .lanes .low) (w₁ .lanes .high) e₁
+      (p .on) u (p .cut) off r out in
+      let es = written w₁ after in
+      let hs = cobsReceives e₁ (writtenOctets es) in
+      let all = answered g (sound-check t) (w₁ .lanes .low) u (not u && isHeld (e₁ .state .held)) w₁ after e₁ (sound-next g w i) k in
+      record {
+        one = up-to-flag t a b high before ∙ under-way-high (p .on) u off;
+        suspended = is;
+        arrive = all-arrive (w₁ .lanes .low) u (not u && isHeld (e₁ .state .held)) es hs all;
+        aside = rw is (all-aside (w₁ .lanes .low) u (not u && isHeld (e₁ .state .held)) es hs all);
+        through = rw is (come-through _ _ _ (all-expected (w₁ .lanes .low) u (not u && isHeld (e₁ .state .held)) es hs all));
+      }
+
+pub demand3 : (settings : Settings) (reading : PlainReading) → valid (agreed settings) ≡ true → Demand3 settings reading
+demand3 t reading v·t a b first second h₁ h₂ before after noise free f =
+    let e₀ = freshReceiver t reading first second in
+    let c = as-cobs noise e₀ (fresh-ready t reading v·t first second h₁ h₂) (fresh-reads t reading first second)
+    (λ o. ap (λ (k : Bool). frameBeganFF (not k) noise) (fresh-out t reading first second) ∙ free o) in
+    let e = received e₀ noise in
+    let p : isPlain (e .state .mode) ≡ false = ap isPlain (c .mode) ∙ fresh-reads t reading first second in
+    let q = passes e flag (c .ready) in
+    let e₁ = receive e flag .after in
+    let out : e₁ .state .framed ≡ false = q .out refl in
+    let p₁ : isPlain (e₁ .state .mode) ≡ false =
+    ap (λ (h : Receive). isPlain (h .after .state .mode)) (in-cobs e flag (c .ready) p (flag-begins (e .state))) ∙ (ap isPlain (cobs-mode e flag (c .ready) p) ∙ p) in
+    let settings·are : e₁ .state .settings ≡ t = receive-settings e flag ∙ (run-settings noise e₀ ∙ fresh-settings t reading first second) in
+    let r : Ready (agreed t) e₁ = subst (λ (s : Settings). Ready (agreed s) e₁) settings·are (ready-of e₁ (q .ready) p₁) in
+    let w₁ = afterNext (run (freshStation t a b) before) in
+    let es = written w₁ after in
+    let i = sound-run (agreed t) (freshStation t a b) before (sound-fresh t a b) in
+    let d = as-cobs (writtenOctets es) e₁ (q .ready) p₁
+    (λ _. ap (λ (k : Bool). frameBeganFF (not k) (writtenOctets es)) out ∙ never-FF (agreed t) true w₁ after (sound-next (agreed t) _ i) (λ _. flag-off (agreed t) _ i f)) in
+    rw (d .calls) (after-flag t v·t a b before after e₁ r out f)
+
+pub sound-line : (settings : Settings) (reading : PlainReading) → valid (agreed settings) ≡ true → SoundLine settings reading
+sound-line t reading v a b first second h₁ h₂ calls =
+    let e = freshReceiver t reading first second in
     let w = freshStation t a b in
-    let k : Lock (agreed t) none false false w e =
-    record { ready = ready-fresh t v first second h₁ h₂; whose = λ _. refl; along = (refl, (refl, record { plain = refl; is = refl })) } in
+    let ready = fresh-ready t reading v first second h₁ h₂ in
+    let p = fresh-reads t reading first second in
+    let k : Lock (agreed t) none false false w e = fresh-lock reading ready in
     let es = written w calls in
-    let hs = receives e (writtenOctets es) in
-    come-through false es hs (none-aside none false es hs (answered (agreed t) (sound-check t) none false false w calls e (sound-fresh t a b) k))
+    let hs = cobsReceives e (writtenOctets es) in
+    let c = as-cobs (writtenOctets es) e ready p
+    (λ _. ap (λ (k : Bool). frameBeganFF (not k) (writtenOctets es)) (fresh-out t reading first second) ∙ never-FF (agreed t) true w calls (sound-fresh t a b) (λ _. refl)) in
+    rw (c .calls) (come-through false es hs (none-aside none false es hs (answered (agreed t) (sound-check t) none false false w calls e (sound-fresh t a b) k)))
+  where
+    fresh-lock : (reading : PlainReading) → ReceiverReady (freshReceiver t reading first second) → Lock (agreed t) none false false (freshStation t a b) (freshReceiver t reading first second)
+    fresh-lock readingOff z = record { ready = ready-of _ z refl; whose = λ _. refl; along = (refl, (refl, record { plain = refl; is = refl })) }
+    fresh-lock (readingOn map) z = record { ready = ready-of _ z refl; whose = λ _. refl; along = (refl, (refl, record { plain = refl; is = refl })) }

@@ -1,8 +1,8 @@
 -- What holds of every single call.
 use mathlib.Core.Path.{_≡_, refl, sym, ap, subst, _∙_}
-use mathlib.Core.Bool.{Bool, true, false, cond, not, _&&_, _||_}
+use mathlib.Core.Bool.{Bool, true, false, cond, not, _&&_, _||_, and-false}
 use mathlib.Core.List.{List, [], _∷_, _++_}
-use mathlib.Core.Logic.{_⊎_, inl, inr}
+use mathlib.Core.Logic.{_⊎_, inl, inr, ⊎-elim}
 use Prim.Native.Nat.{ℕ, _+_, _-_, _≤_, _<_}
 use native.Mathlib.Omega.{arith}
 use borrow.Author.Tests.{eqb-true, eqb-false, ltb-false, lt-ltb, le-ltb, ne-eqb, not-true, not-false}
@@ -13,13 +13,14 @@ use Rattle.fcs.specs.CheckSequence.{register, good}
 use Rattle.cobs.specs.CodeBlocks.{frame, flag, fromLine, meaning}
 use Rattle.cobs.specs.declared.Meaning.{Meaning}
 use Rattle.cobs.specs.declared.Meaning.the-variants.{InTable, NotAgreed, NoCode}
-use Rattle.cobs.proofs.Tests.{branch, decide}
+use Rattle.cobs.proofs.Tests.{branch, decide, and-left, and-right}
 use Rattle.cobs.proofs.Exchange.{from-line}
-use Rattle.link.specs.Agreed.{Agreed, agreed, leastFrame, mostDecoded, valid}
+use Rattle.link.specs.Agreed.{Settings, Agreed, agreed, leastFrame, mostDecoded, valid}
 use Rattle.link.specs.Answers.{Answer, done, octet, idle, quiet, packet, held, refused}
 use Rattle.link.specs.Sender.{Lane, low, high, OnLine, noLane, Sender, SenderEnd, closes, Step, emptyLane, laneState, outAnswer, putFrame, load, next, Load}
-use Rattle.link.specs.Receiver.{Fragment, nothingHeld, holds, Receiver, Working, ReceiverEnd, Receive, Ended, isNoBlock, isD0, write, step4Refuse, step3Write, step3Decode, step3Data, step2ByMeaning, step2Code, step1ResumeHeld, step1D1, step1FirstOctet, steps1To4, step5End, step5WithoutPhantom, step5Flag, atFlag, work, aside, putBack, flagged, receive}
+use Rattle.link.specs.Receiver.{Fragment, nothingHeld, holds, PlainReading, readingOff, readingOn, Receiver, Working, ReceiverEnd, Receive, Ended, isNoBlock, isD0, isPlain, beginsPlain, write, step4Refuse, step3Write, step3Decode, step3Data, step2ByMeaning, step2Code, step1ResumeHeld, step1D1, step1FirstOctet, steps1To4, step5End, step5WithoutPhantom, step5Flag, atFlag, plainOctet, beginPlain, atPlainFlag, work, aside, putBack, flagged, receive}
 use Rattle.link.specs.Receiver as receiver
+use Rattle.link.specs.ReceiverParts.{ReceiverReady}
 use Rattle.link.specs.EachCall.{RefusedChangesNothing, IdleChangesNothing, Loads, DoneLoads, SettingsStay, ClosedIsEmpty, TakesIn, BlockOver, Resumes, HeldThen, NotHeldThen, EndsFrame, ReceivesSo, ValidFirst, AreasThenState}
 use Rattle.link.proofs.Tests.{if-so, if-not, true-false, not-below, one-short, none-short}
 use Rattle.link.proofs.Way.{Way, ends, cuts, warns, goes, sender, Turn, cut·due, idles, resumes·low, begins·high, begins·low, high·on, low·on, by-next}
@@ -27,7 +28,12 @@ use Rattle.link.proofs.Agreed.{valid-width, valid-limit}
 use Rattle.link.proofs.Write.{length-write, take-write}
 use Rattle.link.proofs.ReceiverBounds as heard
 use Rattle.link.proofs.ReceiverCases.{not-valid, too-short, out-of-bounds}
-use Rattle.link.proofs.ReadOn.{ready-of, first-stays, second-stays}
+use Rattle.link.proofs.Cobs.{cobsReceive, in-plain, begins, in-cobs}
+use Rattle.link.proofs.Remembers.{NoLongerGives, octet-so}
+use Rattle.link.proofs.PlainCases.{by-octet, by-begin, by-plain-flag}
+use Rattle.link.proofs.Whole.{ready-of, fit-plain, passes, by-ready}
+use Rattle.link.proofs.Stays.{flag-begins, receive-settings}
+use Rattle.link.proofs.ReadOn.{skips, first-stays, second-stays}
 use Rattle.link.proofs.Follow.{work-back, aside-back, resume-is}
 use Rattle.link.proofs.Resumed.{D1-does}
 use Rattle.link.proofs.SenderBounds as sent
@@ -152,26 +158,9 @@ next-refused e n = next-stays e (refused n) (λ x q. let z : _≡_ {A = ℕ} 0 1
 -- ---- the receiver
 
 receive-refused : (e : ReceiverEnd) (x n : ℕ) → n < 5 → receive e x .report ≡ refused n → receive e x .after ≡ e
-unfolding receive
 receive-refused e x n h =
-    let g = agreed (e .state .settings) in
-    let P : Receive → Type 0 = λ r. r .report ≡ refused n → r .after ≡ e in
-    branch P (not (valid g)) (λ _ _. refl)
-    (λ v. branch P (ltb (length (e .first)) (mostDecoded g) || ltb (length (e .second)) (mostDecoded g)) (λ _ _. refl)
-    (λ k. branch P (not (receiver.inBounds g (e .state))) (λ _ _. refl)
-    (λ i.
-    let long = not-below (length (e .first)) (mostDecoded g) (length (e .second)) (mostDecoded g) k in
-    let z = ready-of e (record {
-      valid = not-false (valid g) v;
-      first = long .0;
-      second = long .1;
-      bounds = not-false (receiver.inBounds g (e .state)) i;
-    }) in
-    branch P (eqb x flag)
-    (λ _ q.
-    let five : heard.OfFrame (refused n) = subst heard.OfFrame (ap (λ (r : Receive). r .report) (heard.receive-flag g e z) ∙ q) (heard.flag-ends g e z .tells) in
-    absurd (omega arith))
-    (λ _ q. absurd (let j : _≡_ {A = ℕ} 0 1 = cc in omega arith)))))
+    by-ready (λ r. r .report ≡ refused n → r .after ≡ e) e x (λ _ _ _ _. refl)
+    (λ a q. let five : heard.OfFrame (refused n) = subst heard.OfFrame q (passes e x a .tells) in absurd (omega arith))
 
 -- ---- the order of the tests
 
@@ -189,14 +178,14 @@ pub valid-first : ValidFirst
 valid-first =
     record {
       senderLimit = λ t n. rw n;
-      receiverLimit = λ t n. rw n;
+      receiverLimit = λ t _ n. rw n;
       senderWidth = λ t l w. rw (l, w);
-      receiverWidth = λ t l w. rw (l, w);
+      receiverWidth = λ t _ l w. rw (l, w);
       load = λ l p s area n. ap loads (sent.load-invalid l p s area n);
       next = λ e n. ap sends (sent.next-invalid e n);
       receive = λ e x n. ap hears (not-valid e x n);
       senderOpens = λ t v. rw (valid-limit (agreed t) v, valid-width (agreed t) v);
-      receiverOpens = λ t v. rw (valid-limit (agreed t) v, valid-width (agreed t) v);
+      receiverOpens = λ t _ v. rw (valid-limit (agreed t) v, valid-width (agreed t) v);
     }
 
 pub areas-then-state : AreasThenState
@@ -213,11 +202,6 @@ areas-then-state =
 
 pub refused-changes-nothing : RefusedChangesNothing
 refused-changes-nothing = record { load = load-refused; next = next-refused; receive = receive-refused }
-
--- ---- the work area taken and put back
-
-put-back-same : (e : ReceiverEnd) → putBack e (work e) ≡ e
-put-back-same e = rw (first-stays (e .state .turn) (e .first) (e .second), second-stays (e .state .turn) (e .first) (e .second))
 
 -- ---- an octet is written only after those that are decoded
 
@@ -395,111 +379,25 @@ module _ (g : Agreed) (w : Working) where
       let on : w .state .framed ≡ true = not-false (w .state .framed) inside in
       branch P (ltb 0 (w .state .left)) (λ _. data-same x ∙ sym (if-so _ _ _ on)) (λ _. code-same x (meaning (g .zxe) x) ∙ sym (if-so _ _ _ on))))
 
--- ---- a refusal that is remembered, and the settings
+-- ---- the settings
 
--- what is held, in the area o, does not give the register that is carried
-abbrev pub NoLongerGives : Agreed → List ℕ → Fragment → Type 0
-NoLongerGives g o nothingHeld = ⊥
-NoLongerGives g o (holds n k) = register (g .check) (take n o) ≡ k → ⊥
-
--- where 21 is remembered, what was held was changed
-record Remembers (g : Agreed) (o : List ℕ) (w v : Working) : Type 0 where
-  over : (v .state .refusal ≡ 0 → ⊥) → BlockOver (v .state)
-  changed : v .state .refusal ≡ 21 → NoLongerGives g o (w .state .held)
-  settings·is : v .state .settings ≡ w .state .settings
-
-module _ (g : Agreed) (o : List ℕ) (w : Working) where
-  abbrev So : Working → Type 0
-  So v = Remembers g o w v
-
-  remembers : (n : ℕ) (resumed : Bool) (r : Receiver) → (n ≡ 21 → NoLongerGives g o (w .state .held)) → r .settings ≡ w .state .settings
-      → So (record { state = receiver.step4Remember n resumed r; area = w .area })
-  remembers n resumed r f e = record { over = λ _. record { left = refl; zeros = refl; last = refl }; changed = f; settings·is = e }
-
-  refused-so : (n : ℕ) (v : Working) → n < 21 → v .state .settings ≡ w .state .settings → So (step4Refuse n v)
-  refused-so n v h e = record { over = λ _. record { left = refl; zeros = refl; last = refl }; changed = λ q. absurd (omega arith); settings·is = e }
-
-  clean-so : (v : Working) → v .state .refusal ≡ 0 → v .state .settings ≡ w .state .settings → So v
-  clean-so v c e = record { over = λ f. absurd (f c); changed = λ q. absurd (omega arith); settings·is = e }
-
-  decode-so : (xs : List ℕ) (v : Working) → v .state .refusal ≡ 0 → v .state .settings ≡ w .state .settings → So (step3Decode g xs v)
-  unfolding step3Decode
-  decode-so xs v c e = branch So (ltb (mostDecoded g) (v .state .decoded + length xs)) (λ _. refused-so 10 v (omega arith) e) (λ _. clean-so (step3Write xs v) c e)
-
-  module _ (c : w .state .refusal ≡ 0) where
-    data-so : (x : ℕ) → So (step3Data g w x)
-    unfolding step3Data
-    data-so x =
-        branch So (ltb (mostDecoded g) (w .state .decoded + 1)) (λ _. refused-so 10 w (omega arith) refl)
-        (λ _. branch So (eqb (w .state .left) 1) (λ _. decode-so (replicate (w .state .zeros) 0) _ c refl) (λ _. clean-so _ c refl))
-
-    code-so : (x : ℕ) (k : Meaning) → So (step2ByMeaning g w x k)
-    unfolding step2ByMeaning
-    code-so x (InTable n z) = branch So (eqb n 0) (λ _. decode-so (replicate z 0) _ c refl) (λ _. clean-so _ c refl)
-    code-so x NotAgreed = refused-so 6 w (omega arith) refl
-    code-so x NoCode = refused-so 7 w (omega arith) refl
-
-    D1-so : (h : Fragment) → w .state .held ≡ h → So (record { state = step1ResumeHeld g o h (w .state); area = w .area })
-    unfolding step1ResumeHeld
-    D1-so nothingHeld e = remembers 8 true (w .state) (λ q. absurd (omega arith)) refl
-    D1-so (holds n k) e =
-        branch (λ (r : Receiver). So (record { state = r; area = w .area })) (eqb (register (g .check) (take n o)) k) (λ _. clean-so _ refl refl)
-        (λ q. remembers 21 true (receiver.letGo (w .state)) (λ _. subst (NoLongerGives g o) (sym e) (eqb-false _ k q)) refl)
-
-    octet-so : (x : ℕ) → So (steps1To4 g o w x)
-    unfolding steps1To4 step1FirstOctet step1D1 step2Code
-    octet-so x =
-        branch So (not (eqb (w .state .refusal) 0)) (λ k. absurd (eqb-false (w .state .refusal) 0 (not-true (eqb (w .state .refusal) 0) k) c))
-        (λ _. branch So (not (w .state .framed))
-        (λ _. branch So (eqb x 0xFF) (λ _. remembers 5 (w .state .resumed) (receiver.letGo (w .state)) (λ q. absurd (omega arith)) refl)
-        (λ _. branch So (eqb x 0xD1)
-        (λ _. branch (λ (r : Receiver). So (record { state = r; area = w .area })) (g .pre) (λ _. D1-so (w .state .held) refl)
-        (λ _. remembers 6 true (w .state) (λ q. absurd (omega arith)) refl))
-        (λ _. code-so x (meaning (g .zxe) x))))
-        (λ _. branch So (ltb 0 (w .state .left)) (λ _. data-so x) (λ _. code-so x (meaning (g .zxe) x))))
-
-  octet-settings : (x : ℕ) → steps1To4 g o w x .state .settings ≡ w .state .settings
-  unfolding steps1To4
-  octet-settings x =
-      decide (eqb (w .state .refusal) 0) (λ c. octet-so (eqb-true (w .state .refusal) 0 c) x .settings·is)
-      (λ c. ap (λ (v : Working). v .state .settings) (if-so _ _ _ (ap not c)))
-
-flag-settings : (g : Agreed) (r : Receiver) (area : List ℕ) → atFlag g r area .state .settings ≡ r .settings
-unfolding atFlag step5Flag step5WithoutPhantom
-flag-settings g r area =
-    let P : Ended → Type 0 = λ t. t .state .settings ≡ r .settings in
-    let end = heard.by-end (λ (s : Receiver). s .settings ≡ r .settings) r (λ _. refl) (λ _. refl) in
-    branch P (r .framed)
-    (λ _. branch P (not (eqb (r .refusal) 0)) (λ _. end)
-    (λ _. branch P (isNoBlock (r .last)) (λ _. end)
-    (λ _. branch P (ltb 0 (r .left)) (λ _. branch P (g .pre) (λ _. refl) (λ _. end))
-    (λ _. branch P (isD0 (r .last)) (λ _. end)
-    (λ _. branch P (ltb (r .decoded - 1) (leastFrame g)) (λ _. end)
-    (λ _. branch P (good (g .check) (take (r .decoded - 1) area)) (λ _. end) (λ _. end)))))))
-    (λ _. refl)
-
-receive-settings : (e : ReceiverEnd) (x : ℕ) → receive e x .after .state .settings ≡ e .state .settings
-unfolding receive
-receive-settings e x =
-    let g = agreed (e .state .settings) in
-    let P : Receive → Type 0 = λ h. h .after .state .settings ≡ e .state .settings in
-    branch P (not (valid g)) (λ _. refl)
-    (λ _. branch P (ltb (length (e .first)) (mostDecoded g) || ltb (length (e .second)) (mostDecoded g)) (λ _. refl)
-    (λ _. branch P (not (receiver.inBounds g (e .state))) (λ _. refl)
-    (λ _. branch P (eqb x flag) (λ _. flag-settings g (e .state) (work e .area)) (λ _. octet-settings g (aside e) (work e) (fromLine x)))))
+opened-settings : (t : Settings) (reading : PlainReading) → receiver.openedReceiver t reading .settings ≡ t
+opened-settings t readingOff = refl
+opened-settings t (readingOn map) = refl
 
 pub settings-stay : SettingsStay
 settings-stay =
-    record { openedSender = λ t. refl; openedReceiver = λ t. refl; load = load-settings; next = next-settings; receive = receive-settings }
+    record { openedSender = λ t. refl; openedReceiver = opened-settings; load = load-settings; next = next-settings; receive = receive-settings }
 
 -- the work area put back
-put-back-writes : (x : ℕ) (e : ReceiverEnd) (w : Working) → Moves (cond (not (e .state .framed) && eqb (fromLine x) 0xFF) nothingHeld (e .state .held)) (work e) w
+put-back-writes : (x : ℕ) (e : ReceiverEnd) (w : Working) (h : Fragment) → Moves h (work e) w
+    → h ≡ cond (not (isPlain (e .state .mode)) && not (e .state .framed) && eqb (fromLine x) 0xFF) nothingHeld (e .state .held)
     → TakesIn x e (putBack e w)
-put-back-writes x e w m =
+put-back-writes x e w h m is =
     let b = e .state .turn in
     record {
       turn = m .turn·is;
-      held = m .held·is;
+      held = m .held·is ∙ is;
       other = aside-back b (e .first) (e .second) (w .area);
       count = m .count;
       decoded = ap (take (e .state .decoded)) (work-back b (e .first) (e .second) (w .area)) ∙ m .same;
@@ -538,28 +436,30 @@ module _ (g : Agreed) (e : ReceiverEnd) where
       (λ _. branch Ends (ltb 0 (e .state .left)) (λ _. branch Ends (g .pre) (λ _. inl (refl, rw agrees)) (λ _. ends-refused 11))
       (λ _. branch Ends (isD0 (e .state .last)) (λ _. ends-refused 12) (λ _. whole-reports (work e .area) (e .state .decoded - 1)))))
 
+  plain-reports : Ends (atPlainFlag g (e .state) (work e .area)) ⊎ (e .state .framed ≡ false)
+  plain-reports =
+      by-plain-flag g (λ (t : Ended). Ends t ⊎ (e .state .framed ≡ false)) (e .state) (work e .area) inr
+      (λ _ _. inl (ends-refused (e .state .refusal)))
+      (λ _. inl (ends-refused 10))
+      (λ _. inl (ends-refused 18))
+      (λ _ _. inl (whole-reports (work e .area) (e .state .decoded)))
+
+  -- ---- while COBS is read
+
   module _ (z : heard.Ready g e) where
-    flag-of-frame : e .state .framed ≡ true → EndsFrame e (receive e flag)
+    flag-of-frame : e .state .framed ≡ true → EndsFrame e (cobsReceive e flag)
     unfolding atFlag
     flag-of-frame f =
         rw (heard.receive-flag g e z ∙ ap (flagged e) (if-so _ _ _ f)) (record { first = refl; second = refl; report = flag-reports (z .agrees) })
 
-    flag-of-none : e .state .framed ≡ false → receive e flag ≡ record { report = quiet; after = e }
+    flag-of-none : e .state .framed ≡ false → cobsReceive e flag ≡ record { report = quiet; after = e }
     unfolding atFlag
     flag-of-none f = heard.receive-flag g e z ∙ ap (flagged e) (if-not _ _ _ f)
 
-    -- ---- an octet that is no flag
-
-    skips : (x : ℕ) → (x ≡ flag → ⊥) → (e .state .refusal ≡ 0 → ⊥) → receive e x .after ≡ e
-    unfolding steps1To4
-    skips x f some =
-        ap (λ (r : Receive). r .after) (heard.receive-other g e z x f)
-        ∙ (ap (putBack e) (if-so _ _ _ (ap not (ne-eqb (e .state .refusal) 0 some))) ∙ put-back-same e)
-
-    pub resumed-by-D1 : e .state .framed ≡ false → g .pre ≡ true → (n k : ℕ) → e .state .held ≡ holds n k → register (g .check) (take n (aside e)) ≡ k
-        → (x : ℕ) → (x ≡ flag → ⊥) → fromLine x ≡ 0xD1 → Resumes n e (receive e x .after)
-    resumed-by-D1 out pre n k h same x other x·is =
-        let is : receive e x .after ≡ putBack e (record { state = receiver.step1Resume n (receiver.letGo (e .state)); area = work e .area }) =
+    D1-resumes : e .state .framed ≡ false → g .pre ≡ true → (n k : ℕ) → e .state .held ≡ holds n k → register (g .check) (take n (aside e)) ≡ k
+        → (x : ℕ) → (x ≡ flag → ⊥) → fromLine x ≡ 0xD1 → Resumes n e (cobsReceive e x .after)
+    D1-resumes out pre n k h same x other x·is =
+        let is : cobsReceive e x .after ≡ putBack e (record { state = receiver.step1Resume n (receiver.letGo (e .state)); area = work e .area }) =
         ap (λ (r : Receive). r .after) (D1-does g e z out x other x·is)
         ∙ ap (λ (s : Receiver). putBack e (record { state = s; area = work e .area })) (resume-is g e z n k h pre same) in
         rw is
@@ -571,29 +471,184 @@ module _ (g : Agreed) (e : ReceiverEnd) where
           second = second-stays (e .state .turn) (e .first) (e .second);
         })
 
-    octet-writes : (x : ℕ) → (x ≡ flag → ⊥) → (e .state .framed ≡ false → fromLine x ≡ 0xD1 → g .pre ≡ true → e .state .held ≡ nothingHeld)
-        → TakesIn x e (receive e x .after)
-    octet-writes x f h =
-        rw (heard.receive-other g e z x f) (put-back-writes x e _ (octet-moves g (work e) (heard.fit-work g e z .long) (aside e) (fromLine x) (z .bounds) h))
+    octet-writes : (x : ℕ) → (x ≡ flag → ⊥) → isPlain (e .state .mode) ≡ false
+        → (e .state .framed ≡ false → fromLine x ≡ 0xD1 → g .pre ≡ true → e .state .held ≡ nothingHeld)
+        → TakesIn x e (cobsReceive e x .after)
+    octet-writes x f p h =
+        rw (heard.receive-other g e z x f)
+        (put-back-writes x e _ _ (octet-moves g (work e) (heard.fit-work g e z .long) (aside e) (fromLine x) (z .bounds) h)
+        (ap (λ (b : Bool). cond (not b && not (e .state .framed) && eqb (fromLine x) 0xFF) nothingHeld (e .state .held)) (sym p)))
 
-    octet-remembers : e .state .refusal ≡ 0 → (x : ℕ) → (x ≡ flag → ⊥) → (receive e x .after .state .refusal ≡ 0 → ⊥) → BlockOver (receive e x .after .state)
-    octet-remembers c x f = rw (heard.receive-other g e z x f) (octet-so g (aside e) (work e) c (fromLine x) .over)
+    octet-remembers : e .state .refusal ≡ 0 → (x : ℕ) → (x ≡ flag → ⊥) → (cobsReceive e x .after .state .refusal ≡ 0 → ⊥) → BlockOver (cobsReceive e x .after .state)
+    octet-remembers c x f = rw (heard.receive-other g e z x f) (octet-so (Unit {0}) g (aside e) (work e) c (fromLine x) (λ _ _. tt) .over)
 
-    pub octet-changed : e .state .refusal ≡ 0 → (x : ℕ) → (x ≡ flag → ⊥) → receive e x .after .state .refusal ≡ 21 → NoLongerGives g (aside e) (e .state .held)
-    octet-changed c x f = rw (heard.receive-other g e z x f) (octet-so g (aside e) (work e) c (fromLine x) .changed)
+    changed-octet : e .state .refusal ≡ 0 → (x : ℕ) → (x ≡ flag → ⊥) → cobsReceive e x .after .state .refusal ≡ 21 → NoLongerGives g (aside e) (e .state .held)
+    changed-octet c x f = rw (heard.receive-other g e z x f) (octet-so (Unit {0}) g (aside e) (work e) c (fromLine x) (λ _ _. tt) .changed)
 
-    octet-marks : (x : ℕ) → (x ≡ flag → ⊥) → receive e x .after .state .resumed ≡ cond (e .state .framed) (e .state .resumed) (eqb (fromLine x) 0xD1)
+    octet-marks : (x : ℕ) → (x ≡ flag → ⊥) → cobsReceive e x .after .state .resumed ≡ cond (e .state .framed) (e .state .resumed) (eqb (fromLine x) 0xD1)
     octet-marks x f = ap (λ (h : Receive). h .after .state .resumed) (heard.receive-other g e z x f) ∙ marks g (work e) (aside e) (fromLine x) (z .bounds)
+
+-- ---- while plain PPP is read, and where it begins
+
+D1-begins-none : (r : Receiver) (x : ℕ) → fromLine x ≡ 0xD1 → beginsPlain r x ≡ false
+D1-begins-none r x is =
+    let other : x ≡ 0xFF → ⊥ = λ q. omega (arith, sym is ∙ (ap fromLine q ∙ from-line 0xFF (λ k. omega arith))) in
+    rw (ne-eqb x 0xFF other) (and-false (not (receiver.isOff (r .mode)) && not (r .framed)))
+
+-- at the first octet of a frame that plain reading begins with
+record First (e : ReceiverEnd) (x : ℕ) : Type 0 where
+  out : e .state .framed ≡ false
+  is : x ≡ 0xFF
+
+begins-first : (e : ReceiverEnd) (x : ℕ) → beginsPlain (e .state) x ≡ true → First e x
+begins-first e x b =
+    let on = not (receiver.isOff (e .state .mode)) in
+    let front = and-left (on && not (e .state .framed)) (eqb x 0xFF) b in
+    record { out = not-true (e .state .framed) (and-right on (not (e .state .framed)) front); is = eqb-true x 0xFF (and-right (on && not (e .state .framed)) (eqb x 0xFF) b) }
+
+module _ (g : Agreed) (w : Working) (long : mostDecoded g ≤ length (w .area)) where
+  plain-moves : (x : ℕ) → Keeps w (plainOctet g w x)
+  plain-moves x =
+      by-octet g (Keeps w) w x (stays w (w .state) refl refl refl) (λ _. stays w _ refl refl refl) (λ _ _. stays w _ refl refl refl)
+      (λ y _ room. after g w long (receiver.inPlainFrame receiver.plain (w .state)) _ refl refl refl (writes-on (y ∷ []) _ (omega arith)))
+
+  begin-moves : Moves nothingHeld w (beginPlain g w)
+  begin-moves =
+      let r = receiver.inPlainFrame receiver.plain (receiver.letGo (w .state)) in
+      by-begin g (Moves nothingHeld w) w (λ _. stays w _ refl refl refl)
+      (λ room.
+      let k = writes-on (0xFF ∷ []) (record { state = r; area = w .area }) (omega arith) in
+      record { turn·is = k .turn·is; held·is = k .held·is; count = k .count; same = k .same; behind = k .behind })
+
+module _ (e : ReceiverEnd) (a : ReceiverReady e) where
+  abbrev agr : Agreed
+  agr = agreed (e .state .settings)
+
+  plain-writes : (x : ℕ) → isPlain (e .state .mode) ≡ true → (x ≡ flag → ⊥) → TakesIn x e (receive e x .after)
+  plain-writes x p f =
+      rw (in-plain e x a p ∙ if-not _ _ _ (ne-eqb x flag f))
+      (put-back-writes x e _ _ (plain-moves agr (work e) (fit-plain e x a p .long) x)
+      (ap (λ (b : Bool). cond (not b && not (e .state .framed) && eqb (fromLine x) 0xFF) nothingHeld (e .state .held)) (sym p)))
+
+  begin-writes : (x : ℕ) → isPlain (e .state .mode) ≡ false → beginsPlain (e .state) x ≡ true → TakesIn x e (receive e x .after)
+  begin-writes x p b =
+      let k = begins-first e x b in
+      let held·none : nothingHeld ≡ cond (not (isPlain (e .state .mode)) && not (e .state .framed) && eqb (fromLine x) 0xFF) nothingHeld (e .state .held) =
+      rw (p, k .out, ap fromLine (k .is) ∙ from-line 0xFF (λ q. omega arith)) in
+      rw (begins e x a p b) (put-back-writes x e _ _ (begin-moves agr (work e) (heard.fit-work agr e (ready-of e a p) .long)) held·none)
+
+  -- ---- any octet that is no flag
+
+  octet-takes : (x : ℕ) → (x ≡ flag → ⊥)
+      → (isPlain (e .state .mode) ≡ false → e .state .framed ≡ false → fromLine x ≡ 0xD1 → agr .pre ≡ true → e .state .held ≡ nothingHeld)
+      → TakesIn x e (receive e x .after)
+  octet-takes x f h =
+      decide (isPlain (e .state .mode)) (λ p. plain-writes x p f)
+      (λ p. decide (beginsPlain (e .state) x) (begin-writes x p)
+      (λ b. rw (in-cobs e x a p b) (octet-writes agr e (ready-of e a p) x f p (h p))))
+
+  remembers-octet : e .state .refusal ≡ 0 → (x : ℕ) → (x ≡ flag → ⊥) → (receive e x .after .state .refusal ≡ 0 → ⊥) → BlockOver (receive e x .after .state)
+  remembers-octet c x f =
+      let Q : Working → Type 0 = λ w. (w .state .refusal ≡ 0 → ⊥) → BlockOver (w .state) in
+      decide (isPlain (e .state .mode))
+      (λ p.
+      rw (in-plain e x a p ∙ if-not _ _ _ (ne-eqb x flag f))
+      (by-octet agr Q (work e) x (λ some. absurd (some c)) (λ _ some. absurd (some refl)) (λ _ _ _. record { left = refl; zeros = refl; last = refl })
+      (λ _ _ _ some. absurd (some refl))))
+      (λ p. decide (beginsPlain (e .state) x)
+      (λ b. rw (begins e x a p b) (by-begin agr Q (work e) (λ _ _. record { left = refl; zeros = refl; last = refl }) (λ _ some. absurd (some refl))))
+      (λ b. rw (in-cobs e x a p b) (octet-remembers agr e (ready-of e a p) c x f)))
+
+  marks-octet : (x : ℕ) → (x ≡ flag → ⊥)
+      → receive e x .after .state .resumed ≡ cond (e .state .framed) (e .state .resumed) (not (isPlain (e .state .mode)) && eqb (fromLine x) 0xD1)
+  marks-octet x f =
+      let Q : Working → Type 0 = λ w. w .state .resumed ≡ e .state .resumed in
+      let c = heard.counts agr (e .state) (a .bounds) in
+      decide (isPlain (e .state .mode))
+      (λ p.
+      ap (λ (h : Receive). h .after .state .resumed) (in-plain e x a p ∙ if-not _ _ _ (ne-eqb x flag f))
+      ∙ (by-octet agr Q (work e) x refl (λ _. refl) (λ _ _. refl) (λ _ _ _. refl)
+      ∙ decide (e .state .framed) (λ k. sym (if-so _ _ _ k)) (λ k. heard.out-fresh agr (e .state) c k .resumed·0 ∙ rw (k, p))))
+      (λ p. decide (beginsPlain (e .state) x)
+      (λ b.
+      let k = begins-first e x b in
+      ap (λ (h : Receive). h .after .state .resumed) (begins e x a p b)
+      ∙ (by-begin agr Q (work e) (λ _. refl) (λ _. refl)
+      ∙ (heard.out-fresh agr (e .state) c (k .out) .resumed·0 ∙ rw (k .out, p, ap fromLine (k .is) ∙ from-line 0xFF (λ q. omega arith)))))
+      (λ b.
+      ap (λ (h : Receive). h .after .state .resumed) (in-cobs e x a p b)
+      ∙ (octet-marks agr e (ready-of e a p) x f ∙ ap (λ (b : Bool). cond (e .state .framed) (e .state .resumed) (not b && eqb (fromLine x) 0xD1)) (sym p))))
+
+  -- ---- a flag
+
+  plain-flag : isPlain (e .state .mode) ≡ true → receive e flag ≡ flagged e (atPlainFlag agr (e .state) (work e .area))
+  plain-flag p = in-plain e flag a p
+
+  ends-frame : e .state .framed ≡ true → EndsFrame e (receive e flag)
+  ends-frame f =
+      decide (isPlain (e .state .mode))
+      (λ p.
+      rw (plain-flag p)
+      (record { first = refl; second = refl; report = ⊎-elim (λ t. t) (λ no. true-false (sym f ∙ no)) (plain-reports agr e) }))
+      (λ p. rw (in-cobs e flag a p (flag-begins (e .state))) (flag-of-frame agr e (ready-of e a p) f))
+
+  ends-none : e .state .framed ≡ false → receive e flag ≡ record { report = quiet; after = e }
+  unfolding atPlainFlag
+  ends-none f =
+      decide (isPlain (e .state .mode)) (λ p. plain-flag p ∙ ap (flagged e) (if-not _ _ _ f))
+      (λ p. in-cobs e flag a p (flag-begins (e .state)) ∙ flag-of-none agr e (ready-of e a p) f)
+
+  -- ---- what is held
+
+  pub resumed-by-D1 : isPlain (e .state .mode) ≡ false → e .state .framed ≡ false → agr .pre ≡ true → (n k : ℕ) → e .state .held ≡ holds n k
+      → register (agr .check) (take n (aside e)) ≡ k → (x : ℕ) → (x ≡ flag → ⊥) → fromLine x ≡ 0xD1 → Resumes n e (receive e x .after)
+  resumed-by-D1 p out pre n k h same x other x·is =
+      let no : beginsPlain (e .state) x ≡ false = D1-begins-none (e .state) x x·is in
+      rw (in-cobs e x a p no) (D1-resumes agr e (ready-of e a p) out pre n k h same x other x·is)
+
+  -- 21 is remembered only of what was changed
+  pub octet-changed : e .state .refusal ≡ 0 → (x : ℕ) → (x ≡ flag → ⊥) → receive e x .after .state .refusal ≡ 21 → NoLongerGives agr (aside e) (e .state .held)
+  octet-changed c x f =
+      let Q : Working → Type 0 = λ w. w .state .refusal ≡ 21 → NoLongerGives agr (aside e) (e .state .held) in
+      decide (isPlain (e .state .mode))
+      (λ p.
+      rw (in-plain e x a p ∙ if-not _ _ _ (ne-eqb x flag f))
+      (by-octet agr Q (work e) x (λ q. absurd (omega arith)) (λ _ q. absurd (omega arith)) (λ _ _ q. absurd (omega arith)) (λ _ _ _ q. absurd (omega arith))))
+      (λ p. decide (beginsPlain (e .state) x)
+      (λ b. rw (begins e x a p b) (by-begin agr Q (work e) (λ _ q. absurd (omega arith)) (λ _ q. absurd (omega arith))))
+      (λ b. rw (in-cobs e x a p b) (changed-octet agr e (ready-of e a p) c x f)))
+
+-- in plain PPP nothing is reported as held
+whole-not-held : (g : Agreed) (r : Receiver) (area : List ℕ) (k n : ℕ) (replaced : Bool) → step5WithoutPhantom g r area k .report ≡ held n replaced → ⊥
+unfolding step5WithoutPhantom
+whole-not-held g r area k n replaced =
+    let P : Ended → Type 0 = λ t. t .report ≡ held n replaced → ⊥ in
+    branch P (ltb k (leastFrame g)) (λ _ q. let z : _≡_ {A = ℕ} 0 1 = cc in omega arith)
+    (λ _. branch P (good (g .check) (take k area)) (λ _ q. let z : _≡_ {A = ℕ} 0 1 = cc in omega arith) (λ _ q. let z : _≡_ {A = ℕ} 0 1 = cc in omega arith))
+
+never-held : (e : ReceiverEnd) (x n : ℕ) (replaced : Bool) → isPlain (e .state .mode) ≡ true → receive e x .report ≡ held n replaced → ⊥
+never-held e x n replaced p =
+    let g = agreed (e .state .settings) in
+    let P : Receive → Type 0 = λ h. h .report ≡ held n replaced → ⊥ in
+    by-ready P e x (λ _ _ _ q. let z : _≡_ {A = ℕ} 0 1 = cc in omega arith)
+    (λ a.
+    rw (in-plain e x a p)
+    (branch P (eqb x flag)
+    (λ _. by-plain-flag g (λ (t : Ended). t .report ≡ held n replaced → ⊥) (e .state) (work e .area) (λ _ q. let z : _≡_ {A = ℕ} 0 1 = cc in omega arith)
+    (λ _ _ q. let z : _≡_ {A = ℕ} 0 1 = cc in omega arith) (λ _ q. let z : _≡_ {A = ℕ} 0 1 = cc in omega arith) (λ _ q. let z : _≡_ {A = ℕ} 0 1 = cc in omega arith)
+    (λ _ _. whole-not-held g (e .state) (work e .area) (e .state .decoded) n replaced))
+    (λ _ q. let z : _≡_ {A = ℕ} 0 1 = cc in omega arith)))
 
 pub receives-so : ReceivesSo
 receives-so =
     record {
-      others = λ e r x f. heard.other-passes (agreed (e .state .settings)) e x f (ready-of e r) .silent;
-      empty = λ e r f. flag-of-none (agreed (e .state .settings)) e (ready-of e r) f;
-      frame = λ e r f. flag-of-frame (agreed (e .state .settings)) e (ready-of e r) f;
-      skipped = λ e r some x f. skips (agreed (e .state .settings)) e (ready-of e r) x f some;
-      remembered = λ e r c x f k. octet-remembers (agreed (e .state .settings)) e (ready-of e r) c x f k;
-      mark = λ e r x f. octet-marks (agreed (e .state .settings)) e (ready-of e r) x f;
-      resumes = λ e r out pre n k h same. resumed-by-D1 (agreed (e .state .settings)) e (ready-of e r) out pre n k h same 0xD1 (λ q. omega arith) (from-line 0xD1 (λ q. omega arith));
-      takesIn = λ e r x f h. octet-writes (agreed (e .state .settings)) e (ready-of e r) x f h;
+      others = λ e r x f. passes e x r .silent f;
+      empty = ends-none;
+      frame = ends-frame;
+      skipped = λ e r some x f. ap (λ (h : Receive). h .after) (skips e x r some f);
+      remembered = remembers-octet;
+      mark = marks-octet;
+      neverHeld = never-held;
+      resumes = λ e r p out pre n k h same. resumed-by-D1 e r p out pre n k h same 0xD1 (λ q. omega arith) (from-line 0xD1 (λ q. omega arith));
+      takesIn = octet-takes;
     }

@@ -18,7 +18,7 @@ use Rattle.link.specs.Answers.{done, quiet, refused}
 use Rattle.link.specs.Sender.{Lane, low, Sender, Load, openedSender, laneState, putFrame, load, step4BreakOff, step5Data, step6Code, steps3To6, step2NoLane, steps1To6, next}
 use Rattle.link.specs.Sender as sender
 use Rattle.link.specs.Demands.{freshReceiver}
-use Rattle.link.specs.Receiver.{nothingHeld, Receive, openedReceiver, step3Decode, step3Data, step2ByMeaning, step2Code, step1ResumeHeld, step1D1, step1FirstOctet, steps1To4, step5WithoutPhantom, step5Flag, atFlag, receive}
+use Rattle.link.specs.Receiver.{nothingHeld, keptOff, readingOff, Receive, openedReceiver, step3Decode, step3Data, step2ByMeaning, step2Code, step1ResumeHeld, step1D1, step1FirstOctet, steps1To4, step5WithoutPhantom, step5Flag, atFlag, receive}
 use Rattle.link.specs.Receiver as receiver
 use Rattle.link.specs.Runs.{afterLoad, afterNext, run, senderAnswers, written, receives, notQuiet, received}
 use Rattle.link.specs.Examples.{OtherBitsIgnored, AgreedLengths, PacketLengths, Example, Tells, settingsExamples, widthExamples, limitExamples, largestExamples, agreeing, area, codeExamples, callExamples, senderBounds, receiverBounds, emptyExamples, frameExamples, heldExamples, changedExamples, examples, Examples}
@@ -103,18 +103,18 @@ module _ (t : Settings) (v : valid (agreed t) ≡ true) where
   short-load : (p : List ℕ) (m : ℕ) → m < largestFrame (agreed t) → load low p (openedSender t) (area m) .answer ≡ refused 2
   short-load p m c = areas-then-state .loadShort low p (openedSender t) (area m) v (rw (size m) c)
 
-  short-second : (m n : ℕ) → n < mostDecoded (agreed t) → receive (freshReceiver t (area m) (area n)) flag .report ≡ refused 2
-  short-second m n c = areas-then-state .receiveShort (freshReceiver t (area m) (area n)) flag v (inr (rw (size n) c))
+  short-second : (m n : ℕ) → n < mostDecoded (agreed t) → receive (freshReceiver t readingOff (area m) (area n)) flag .report ≡ refused 2
+  short-second m n c = areas-then-state .receiveShort (freshReceiver t readingOff (area m) (area n)) flag v (inr (rw (size n) c))
 
-  empty-frame : (m n : ℕ) → mostDecoded (agreed t) ≤ m → mostDecoded (agreed t) ≤ n → receive (freshReceiver t (area m) (area n)) flag .report ≡ quiet
+  empty-frame : (m n : ℕ) → mostDecoded (agreed t) ≤ m → mostDecoded (agreed t) ≤ n → receive (freshReceiver t readingOff (area m) (area n)) flag .report ≡ quiet
   empty-frame m n a b =
       ap (λ (h : Receive). h .report)
-      (receives-so .empty (freshReceiver t (area m) (area n))
+      (receives-so .empty (freshReceiver t readingOff (area m) (area n))
       (record {
         valid = v;
         first = rw (size m) a;
         second = rw (size n) b;
-        bounds = heard.in-bounds (agreed t) (openedReceiver t) (heard.out-of-frame-in (agreed t) t false nothingHeld tt);
+        bounds = heard.in-bounds (agreed t) (openedReceiver t readingOff) refl (λ _. refl) (heard.fresh-in (agreed t) t keptOff 0 false nothingHeld tt);
       })
       refl)
 

@@ -20,8 +20,9 @@ use Rattle.cobs.proofs.Chosen.{Stands}
 use Rattle.cobs.proofs.Frame.{zeros-from}
 use Rattle.link.specs.Agreed.{Settings, Agreed, agreed, leastPacket, leastFrame, mostDecoded}
 use Rattle.link.specs.Answers.{held, packet, refused}
-use Rattle.link.specs.Receiver.{Fragment, nothingHeld, holds, LastBlock, noBlock, blockD0, otherBlock, Receiver, Working, ReceiverEnd, withDue, step2BeginBlock, isNoBlock, isD0, write, step3Write, step3Decode, step3Data, lastBlock, step2ByMeaning, step2Code, letGo, step1Resume, step1ResumeHeld, step1D1, step1FirstOctet, steps1To4, isHeld, step5End, step5Hold, step5WithoutPhantom, step5Flag, atFlag, areaOf, work, aside, putBack, flagged, receive}
+use Rattle.link.specs.Receiver.{Fragment, nothingHeld, holds, LastBlock, noBlock, blockD0, otherBlock, Receiver, Working, ReceiverEnd, withDue, step2BeginBlock, isNoBlock, isD0, write, step3Write, step3Decode, step3Data, lastBlock, step2ByMeaning, step2Code, letGo, step1Resume, step1ResumeHeld, step1D1, step1FirstOctet, steps1To4, isHeld, step5End, step5Hold, step5WithoutPhantom, step5Flag, atFlag, areaOf, work, aside, putBack, flagged}
 use Rattle.link.specs.Runs.{packetIn}
+use Rattle.link.proofs.Cobs.{cobsReceive}
 use Rattle.link.proofs.Tests.{if-so, if-not, true-false, not-not}
 use Rattle.link.proofs.Write.{length-write, take-write}
 use Rattle.link.proofs.ReceiverBounds.{Bounds, by-end, Fit, Ready, receive-flag, first-octet, steps-data}
@@ -305,7 +306,7 @@ module _ (g : Agreed) (e : ReceiverEnd) (z : Ready g e) where
 
   -- step 5 with no refusal remembered
   step5-clean : r .refusal ≡ 0 → isNoBlock (r .last) ≡ false
-      → receive e flag
+      → cobsReceive e flag
       ≡ flagged e
       (cond (ltb 0 (r .left)) (cond (g .pre) (step5Hold g r (work e .area)) (step5End (refused 11) r))
       (cond (isD0 (r .last)) (step5End (refused 12) r) (step5WithoutPhantom g r (work e .area) (r .decoded - 1))))
@@ -318,7 +319,7 @@ module _ (g : Agreed) (e : ReceiverEnd) (z : Ready g e) where
   -- a closing flag delivers the packet
   module _ (p : List ℕ) (sound : Sound (g .check)) (big : leastPacket ≤ length p)
       (fo : Follows (withPhantom (frame (g .check) p)) (length (frame (g .check) p) + 1) 0 0 (work e)) where
-    delivers : receive e flag ≡ flagged e (step5End (packet (r .turn) (length p)) r)
+    delivers : cobsReceive e flag ≡ flagged e (step5End (packet (r .turn) (length p)) r)
     unfolding step5WithoutPhantom
     delivers =
         let f = frame (g .check) p in
@@ -341,16 +342,16 @@ module _ (g : Agreed) (e : ReceiverEnd) (z : Ready g e) where
         sym (take-take (length p) (length (frame (g .check) p)) (work e .area) (omega (arith, frame-long g p)))
         ∙ (ap (take (length p)) (decoded-frame (frame (g .check) p) (work e .area) (fo .same)) ∙ take-append-seam p (fcs (g .check) p))
 
-    pub reports : packetIn (receive e flag) ≡ some p
+    pub reports : packetIn (cobsReceive e flag) ≡ some p
     reports = rw delivers (ap some delivered)
 
     -- what was held stays so, unless the frame was a resumed one
-    pub delivers-held : receive e flag .after .state .held ≡ cond (r .resumed) nothingHeld (r .held)
+    pub delivers-held : cobsReceive e flag .after .state .held ≡ cond (r .resumed) nothingHeld (r .held)
     delivers-held =
         rw delivers
         (by-end (λ (s : Receiver). s .held ≡ cond (r .resumed) nothingHeld (r .held)) r (λ k. sym (if-so _ _ _ k)) (λ k. sym (if-not _ _ _ k)))
 
-    pub delivers-holding : (d : List ℕ) (pos : ℕ) → Holding d pos e → Holding d pos (receive e flag .after)
+    pub delivers-holding : (d : List ℕ) (pos : ℕ) → Holding d pos e → Holding d pos (cobsReceive e flag .after)
     delivers-holding d pos h =
         rw delivers
         (by-end (λ (s : Receiver). Holding d pos (record { state = s; first = e .first; second = e .second })) r (λ k. true-false (sym k ∙ h .plain))
@@ -358,15 +359,15 @@ module _ (g : Agreed) (e : ReceiverEnd) (z : Ready g e) where
 
   -- a flag inside a block leaves the fragment held
   module _ (d : List ℕ) (pos n y : ℕ) (fo : Follows d pos n y (work e)) (more : 0 < n) (pre : g .pre ≡ true) where
-    breaks-off : receive e flag ≡ flagged e (step5Hold g r (work e .area))
+    breaks-off : cobsReceive e flag ≡ flagged e (step5Hold g r (work e .area))
     breaks-off =
         step5-clean (fo .clean) (block-open (r .last) (n + y) (length d - pos) (omega arith) (fo .ahead))
         ∙ ap (flagged e) (if-so _ _ _ (lt-ltb 0 (r .left) (omega (arith, fo .left·is))) ∙ if-so _ _ _ pre)
 
-    pub breaks-held : receive e flag .report ≡ held pos (not (r .resumed) && isHeld (r .held))
+    pub breaks-held : cobsReceive e flag .report ≡ held pos (not (r .resumed) && isHeld (r .held))
     breaks-held = rw breaks-off (ap (λ (k : ℕ). held k (not (r .resumed) && isHeld (r .held))) (fo .count))
 
-    pub breaks-holding : Holding d pos (receive e flag .after)
+    pub breaks-holding : Holding d pos (cobsReceive e flag .after)
     breaks-holding = rw breaks-off (record { plain = refl; held·is = carries; same = subst (λ (b : Bool). take pos (areaOf b e) ≡ take pos d) (sym (not-not (r .turn))) (fo .same) })
       where
         carries : holds (r .decoded) (register (g .check) (take (r .decoded) (work e .area))) ≡ holds pos (register (agreed (r .settings) .check) (take pos d))

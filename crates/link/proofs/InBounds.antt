@@ -5,71 +5,57 @@ use mathlib.Core.Logic.{⊎-elim}
 use mathlib.Core.List.{List, [], _∷_, map, List·Memᴰ, List·Memᴰ·not-nil, List·Memᴰ·cases-cons}
 use Prim.Native.Nat.{ℕ}
 use native.Mathlib.Omega.{arith}
-use borrow.Author.Tests.{eqb-true, eqb-false}
-use lib.Dec.{ltb, eqb}
+use lib.Dec.{ltb}
 use lib.ListN.{length}
-use Rattle.cobs.specs.CodeBlocks.{flag}
 use Rattle.cobs.proofs.Tests.{branch, decide}
 use Rattle.link.specs.Agreed.{Settings, Agreed, agreed, valid, leastPacket, largestFrame, mostDecoded}
 use Rattle.link.specs.Answers.{refused}
 use Rattle.link.specs.Sender.{Lane, low, high, OnLine, LaneState, Sender, SenderEnd, Step, Load, outAnswer, laneArea, laneState, loaded, next, putFrame, load, inBounds}
-use Rattle.link.specs.Receiver.{Receiver, ReceiverEnd, Receive, receive}
+use Rattle.link.specs.Receiver.{PlainReading, readingOff, readingOn, ReceiverEnd, Receive, receive}
 use Rattle.link.specs.Receiver as receiver
 use Rattle.link.specs.Runs.{SenderCall, loading, nextOctet, Station, freshStation, senderAnswers, afterLoad, afterNext, receives}
 use Rattle.link.specs.Demands.{KeepBounds, NeverOutOfBounds, freshReceiver}
-use Rattle.link.proofs.Tests.{if-so, not-below}
+use Rattle.link.proofs.Tests.{not-below}
 use Rattle.link.proofs.Way.{Way, ends, cuts, warns, goes, Turn, cut·due, idles, resumes·low, begins·high, begins·low, high·on, low·on, turn}
 use Rattle.link.proofs.ReceiverBounds as heard
+use Rattle.link.proofs.ReceiverCases.{too-short}
+use Rattle.link.proofs.Whole.{passes, by-ready}
+use Rattle.link.proofs.Stays.{receive-settings}
 use Rattle.link.proofs.SenderBounds as sent
 use Rattle.link.proofs.Sound.{Sound, sound-fresh, sound-load, sound-next}
 
 -- ---- the receiver
 
--- in bounds, whatever the areas
-record InBounds (g : Agreed) (r : Receiver) : Type 0 where
-  agrees : agreed (r .settings) ≡ g
-  bounds : heard.Bounds g r
+-- a refused call changes nothing, and any other leaves the state in bounds
+keeps : (e : ReceiverEnd) (x : ℕ) → receiver.inBounds (agreed (e .state .settings)) (e .state) ≡ true
+    → receiver.inBounds (agreed (receive e x .after .state .settings)) (receive e x .after .state) ≡ true
+keeps e x b = by-ready (λ h. receiver.inBounds (agreed (h .after .state .settings)) (h .after .state) ≡ true) e x (λ _ _ _. b) (λ a. passes e x a .ready .bounds)
 
-module _ (g : Agreed) (e : ReceiverEnd) (x : ℕ) (b : InBounds g (e .state)) where
-  receive-invalid : valid g ≡ false → receive e x ≡ record { report = refused 3; after = e }
-  unfolding receive
-  receive-invalid v = rw (b .agrees) (rw v)
+-- 3 refuses only a state out of bounds
+not-3 : (e : ReceiverEnd) (x : ℕ) → valid (agreed (e .state .settings)) ≡ true → receiver.inBounds (agreed (e .state .settings)) (e .state) ≡ true
+    → receive e x .report ≡ refused 3 → ⊥
+not-3 e x v b =
+    let g = agreed (e .state .settings) in
+    let most = mostDecoded g in
+    decide (ltb (length (e .first)) most || ltb (length (e .second)) most)
+    (λ s. rw (too-short e x v s) (λ q. let n : _≡_ {A = ℕ} 2 3 = cc in omega arith))
+    (λ s q.
+    let long = not-below (length (e .first)) most (length (e .second)) most s in
+    let five : heard.OfFrame (refused 3) = subst heard.OfFrame q (passes e x (record { valid = v; first = long .0; second = long .1; bounds = b }) .tells) in
+    omega arith)
 
-  abbrev short : Bool
-  short = ltb (length (e .first)) (mostDecoded g) || ltb (length (e .second)) (mostDecoded g)
-
-  receive-short : valid g ≡ true → short ≡ true → receive e x ≡ record { report = refused 2; after = e }
-  unfolding receive
-  receive-short v k = rw (b .agrees, v) (if-so _ _ _ k)
-
-  ready : valid g ≡ true → short ≡ false → heard.Ready g e
-  ready v k =
-      let long = not-below (length (e .first)) (mostDecoded g) (length (e .second)) (mostDecoded g) k in
-      record { agrees = b .agrees; valid = v; bounds = b .bounds; first = long .0; second = long .1 }
-
-  receive-in-bounds : InBounds g (receive e x .after .state)
-  receive-in-bounds =
-      decide (valid g)
-      (λ v. decide short (λ k. rw (receive-short v k) b)
-      (λ k. let z = heard.receive-ready g e x (ready v k) in record { agrees = z .agrees; bounds = z .bounds }))
-      (λ v. rw (receive-invalid v) b)
-
-  receive-3 : valid g ≡ true → receive e x .report ≡ refused 3 → ⊥
-  receive-3 v =
-      decide short (λ k. rw (receive-short v k) (λ q. let n : _≡_ {A = ℕ} 2 3 = cc in omega arith))
-      (λ k. decide (eqb x flag)
-      (λ f. rw (eqb-true x flag f)
-      (λ q. let h : heard.OfFrame (refused 3) = subst heard.OfFrame q (heard.flag-ends g e (ready v k) .tells) in omega arith))
-      (λ f q.
-      let h : heard.OfFrame (refused 3) = subst heard.OfFrame (sym (heard.other-passes g e x (eqb-false x flag f) (ready v k) .silent) ∙ q) tt in
-      omega arith))
-
-never-3 : (g : Agreed) → valid g ≡ true → (e : ReceiverEnd) (xs : List ℕ) → InBounds g (e .state)
+never-3 : (xs : List ℕ) (e : ReceiverEnd) → valid (agreed (e .state .settings)) ≡ true → receiver.inBounds (agreed (e .state .settings)) (e .state) ≡ true
     → List·Memᴰ (refused 3) (map (λ (h : Receive). h .report) (receives e xs)) → ⊥
 unfolding receives
-never-3 g v e [] b m = List·Memᴰ·not-nil m
-never-3 g v e (x ∷ xs) b m =
-    ⊎-elim (λ q. receive-3 g e x b v (sym q)) (never-3 g v (receive e x .after) xs (receive-in-bounds g e x b)) (List·Memᴰ·cases-cons m)
+never-3 [] e v b m = List·Memᴰ·not-nil m
+never-3 (x ∷ xs) e v b m =
+    ⊎-elim (λ q. not-3 e x v b (sym q))
+    (never-3 xs (receive e x .after) (subst (λ (t : Settings). valid (agreed t) ≡ true) (sym (receive-settings e x)) v) (keeps e x b)) (List·Memᴰ·cases-cons m)
+
+fresh-3 : (t : Settings) (reading : PlainReading) → valid (agreed t) ≡ true → (a b xs : List ℕ)
+    → List·Memᴰ (refused 3) (map (λ (h : Receive). h .report) (receives (freshReceiver t reading a b) xs)) → ⊥
+fresh-3 t readingOff v a b xs = never-3 xs _ v (heard.in-bounds _ _ refl (λ _. refl) (heard.fresh-in (agreed t) t _ _ _ _ tt))
+fresh-3 t (readingOn map) v a b xs = never-3 xs _ v (heard.in-bounds _ _ refl (λ q. absurd (omega arith)) (heard.fresh-in (agreed t) t _ _ _ _ tt))
 
 -- ---- the sender
 
@@ -134,17 +120,12 @@ keep-bounds =
       next =
           λ e b.
           kept-in (e .state .settings) _ (sent.next-keeps (agreed (e .state .settings)) e refl (sent.bounds (agreed (e .state .settings)) (e .state) b));
-      receive =
-          λ e x b.
-          let g = agreed (e .state .settings) in
-          let i = receive-in-bounds g e x (record { agrees = refl; bounds = heard.bounds g (e .state) b }) in
-          subst (λ (h : Agreed). receiver.inBounds h (receive e x .after .state) ≡ true) (sym (i .agrees))
-          (heard.in-bounds g (receive e x .after .state) (i .bounds));
+      receive = keeps;
     }
 
 pub never-out-of-bounds : NeverOutOfBounds
 never-out-of-bounds =
     record {
       sender = λ t v al ah cs m. sender-3 (agreed t) v (freshStation t al ah) cs (sound-fresh t al ah) m;
-      receiver = λ t v a b xs m. never-3 (agreed t) v (freshReceiver t a b) xs (record { agrees = refl; bounds = heard.out-of-frame-in (agreed t) t _ _ tt }) m;
+      receiver = fresh-3;
     }

@@ -4,9 +4,14 @@ pub mod Agreed
 pub mod D
 pub mod Area
 pub mod Write
+pub mod Cobs
 pub mod ReceiverBounds
-pub mod Within
 pub mod ReceiverCases
+pub mod Remembers
+pub mod PlainCases
+pub mod Whole
+pub mod Stays
+pub mod Within
 pub mod ReadOn
 pub mod Follow
 pub mod Resumed
@@ -15,6 +20,8 @@ pub mod SenderBounds
 pub mod Sound
 pub mod Lock
 pub mod UnderWay
+pub mod FirstOctets
+pub mod AsCobs
 pub mod Demands
 pub mod AnyBlocks
 pub mod Progress
@@ -23,9 +30,12 @@ pub mod Urgent
 pub mod Delivery
 pub mod InBounds
 pub mod EachCall
+pub mod PlainFrames
 pub mod WriteOn
 pub mod AreasAside
 pub mod Restart
+pub mod PlainPair
 pub mod Changed
 pub mod Marked
 pub mod Examples
+pub mod PlainExamples

@@ -13,8 +13,9 @@ use Rattle.cobs.proofs.Table.{numbers}
 use Rattle.link.specs.Agreed.{Settings, Agreed, largestFrame, mostDecoded}
 use Rattle.link.specs.Answers.{Answer, held, refused}
 use Rattle.link.specs.Sender.{Lane, low, high, OnLine, noLane, sending, LaneState, Out, closes, breaksOff, sends, sendsNothing, refuses, Step, laneD, loaded, next, putFrame}
-use Rattle.link.specs.Receiver.{Fragment, nothingHeld, Working, ReceiverEnd, Receive, isHeld, work, aside, putBack, steps1To4, receive}
+use Rattle.link.specs.Receiver.{Fragment, nothingHeld, Working, ReceiverEnd, Receive, isHeld, work, aside, putBack, steps1To4}
 use Rattle.link.specs.Runs.{Lanes, Station, lanePacket, afterLoad, afterStep, afterNext, Written, endsItsFrame, asideAfter, replacesAfter, Arrives, ExpectedReport}
+use Rattle.link.proofs.Cobs.{cobsReceive}
 use Rattle.link.proofs.Tests.{true-false, false-true}
 use Rattle.link.proofs.Way.{Advance, last, more, covers, opens, Way, ends, cuts, warns, goes, sender, Turn, cut·due, idles, resumes·low, begins·high, begins·low, high·on, low·on, by-next}
 use Rattle.link.proofs.ReceiverBounds.{Ready, OfFrame, fit-work, receive-other, flag-ends, other-passes}
@@ -26,12 +27,12 @@ use Rattle.link.proofs.Sound.{station, StockOf, Stock, Waiting, Sound, 
 -- ---- an octet that is sent, as the receiver takes it
 
 module _ (g : Agreed) (e : ReceiverEnd) (z : Ready g e) (x : ℕ) where
-  pub passes : (x ≡ 0 → ⊥) → receive e (toLine x) .after ≡ putBack e (steps1To4 g (aside e) (work e) x)
+  pub passes : (x ≡ 0 → ⊥) → cobsReceive e (toLine x) .after ≡ putBack e (steps1To4 g (aside e) (work e) x)
   passes h =
       ap (λ (k : Receive). k .after) (receive-other g e z (toLine x) (no-flag x))
       ∙ ap (λ (y : ℕ). putBack e (steps1To4 g (aside e) (work e) y)) (turned-back x h)
 
-  passes-plain : (x ≡ flag → ⊥) → (x ≡ 0 → ⊥) → receive e x .after ≡ putBack e (steps1To4 g (aside e) (work e) x)
+  passes-plain : (x ≡ flag → ⊥) → (x ≡ 0 → ⊥) → cobsReceive e x .after ≡ putBack e (steps1To4 g (aside e) (work e) x)
   passes-plain f h =
       ap (λ (k : Receive). k .after) (receive-other g e z x f) ∙ ap (λ (y : ℕ). putBack e (steps1To4 g (aside e) (work e) y)) (from-line x h)
 
@@ -84,7 +85,7 @@ module _ (g : Agreed) (q : LaneState) (a : List ℕ) (n z : ℕ) (fits : q .leng
 
   -- whatever octet of D is sent
   pub heard : (x pos n′ z′ : ℕ) → q .position ≤ q .length → Advance (g .zxe) d (q .position) n z x pos n′ z′
-      → Went d pos n′ z′ e (receive e (toLine x) .after)
+      → Went d pos n′ z′ e (cobsReceive e (toLine x) .after)
   heard x pos n′ z′ h (last k) =
       rw (passes g e r x (first-nonzero (omega arith)))
       (went d _ 0 0 e _
@@ -106,7 +107,7 @@ module _ (g : Agreed) (q : LaneState) (a : List ℕ) (n z : ℕ) (fits : q .leng
       (went d _ _ _ e _ (code-some g d depth (q .position) (aside e) (work e) (fit-work g e r) (none-left k) _ ch l))
 
   -- 02 before a cut
-  pub heard-two : n ≡ 0 → Went d (q .position) 1 1 e (receive e 0x02 .after)
+  pub heard-two : n ≡ 0 → Went d (q .position) 1 1 e (cobsReceive e 0x02 .after)
   heard-two h =
       rw (passes-plain g e r 0x02 (λ s. omega arith) (λ s. omega arith))
       (went d (q .position) 1 1 e _ (code-two g d depth (q .position) (aside e) (work e) (fit-work g e r) (none-left h)))
@@ -118,7 +119,7 @@ module _ (g : Agreed) (q : LaneState) (a : List ℕ) (n z : ℕ) (fits : q .leng
   nonzero h s = b .nonzero 0 h (ap (λ (j : ℕ). getD (laneD q a) j 0) (omega arith) ∙ s)
 
   pub in-step : (x pos n′ z′ : ℕ) → q .position ≤ q .length → Advance (g .zxe) (laneD q a) (q .position) n z x pos n′ z′
-      → InStep n′ (receive e (toLine x) .after .state)
+      → InStep n′ (cobsReceive e (toLine x) .after .state)
   in-step x pos n′ z′ h (last k) =
       rw (passes g e r x (nonzero (omega arith)))
       (in-step-at (n - 1) 0 _ (omega arith) (data-in-step g (aside e) (work e) n i x (omega arith)))
@@ -170,7 +171,7 @@ pub record Answered (m : Option (List ℕ)) (b s : Bool) (x : Written) (h : Rece
 -- what a call of the sender must lead to: w the station before it, w′ after it
 abbrev pub LedBy : Agreed → Option (List ℕ) → Bool → Bool → Written → Station → ReceiverEnd → Type 0
 LedBy g m b s x w′ e =
-    Answered m b s x (receive e (x .octet)) × Lock g m (asideAfter b (x .out)) (replacesAfter s (x .out)) w′ (receive e (x .octet) .after)
+    Answered m b s x (cobsReceive e (x .octet)) × Lock g m (asideAfter b (x .out)) (replacesAfter s (x .out)) w′ (cobsReceive e (x .octet) .after)
 
 abbrev pub Leads : Agreed → Option (List ℕ) → Bool → Bool → Out → Lanes → ℕ → Station → ReceiverEnd → Type 0
 Leads g m b s (closes l) v k w′ e = LedBy g m b s (record { out = closes l; octet = flag; sentFor = lanePacket l v; lowPosition = k }) w′ e
@@ -188,14 +189,14 @@ arrives a t =
 
 -- an octet that is no flag
 quiet-send : (g : Agreed) (l : Lane) (x : ℕ) (m n : Option (List ℕ)) (b s : Bool) (k : ℕ) (e : ReceiverEnd) → Ready g e → (x ≡ flag → ⊥)
-    → Answered n b s (record { out = sends l x; octet = x; sentFor = m; lowPosition = k }) (receive e x)
+    → Answered n b s (record { out = sends l x; octet = x; sentFor = m; lowPosition = k }) (cobsReceive e x)
 quiet-send g l x m n b s k e z f =
     let p = other-passes g e x f z in
     record { arrives = arrives _ (subst OfFrame (sym (p .silent)) tt); expected = λ _. p .silent; aside = λ q. false-true q }
 
 -- a flag that ends a frame of the packet that was under way
 aside-flag : (g : Agreed) (o : Out) (m n : Option (List ℕ)) (s : Bool) (k : ℕ) (e : ReceiverEnd) → Ready g e → endsItsFrame true o ≡ true → m ≡ n → replacesAfter s o ≡ s
-    → Answered n true s (record { out = o; octet = flag; sentFor = m; lowPosition = k }) (receive e flag)
+    → Answered n true s (record { out = o; octet = flag; sentFor = m; lowPosition = k }) (cobsReceive e flag)
 aside-flag g o m n s k e z f w i =
     record { arrives = arrives _ (flag-ends g e z .tells); expected = λ q. true-false (sym f ∙ q); aside = λ _. (w, i) }
 
@@ -208,23 +209,23 @@ module _ (g : Agreed) (law : check.Sound (g .check)) (q : LaneState) (a : List �
 
   -- a closing flag: the packet, and what was held
   closed : (l : Lane) (m : Option (List ℕ)) (s : Bool) (k : ℕ) → Stock g q a m → 0 < q .length → Follows (laneD q a) (q .length + 1) 0 0 (work e)
-      → ExpectedReport s (closes l) m k (receive e flag)
+      → ExpectedReport s (closes l) m k (cobsReceive e flag)
   closed l none s k st h fo = absurd (omega arith)
   closed l (some p) s k st h fo = reports g e z p law (st .big) (whole-frame p st fo)
 
   closed-answer : (l : Lane) (m n : Option (List ℕ)) (b s : Bool) (k : ℕ) → endsItsFrame b (closes l) ≡ false → Stock g q a m → 0 < q .length
       → Follows (laneD q a) (q .length + 1) 0 0 (work e)
-      → Answered n b s (record { out = closes l; octet = flag; sentFor = m; lowPosition = k }) (receive e flag)
+      → Answered n b s (record { out = closes l; octet = flag; sentFor = m; lowPosition = k }) (cobsReceive e flag)
   closed-answer l m n b s k f st h fo =
       record { arrives = arrives _ (flag-ends g e z .tells); expected = λ _. closed l m s k st h fo; aside = λ i. false-true (sym f ∙ i) }
 
   closed-holding : (m : Option (List ℕ)) → Stock g q a m → 0 < q .length → Follows (laneD q a) (q .length + 1) 0 0 (work e)
-      → (d : List ℕ) (pos : ℕ) → Holding d pos e → Holding d pos (receive e flag .after)
+      → (d : List ℕ) (pos : ℕ) → Holding d pos e → Holding d pos (cobsReceive e flag .after)
   closed-holding none st h fo d pos hd = absurd (omega arith)
   closed-holding (some p) st h fo d pos hd = delivers-holding g e z p law (st .big) (whole-frame p st fo) d pos hd
 
   closed-held : (m : Option (List ℕ)) (s : Bool) → Stock g q a m → 0 < q .length → Follows (laneD q a) (q .length + 1) 0 0 (work e) → Replaces s e
-      → HeldIs s (receive e flag .after)
+      → HeldIs s (cobsReceive e flag .after)
   closed-held none s st h fo k = absurd (omega arith)
   closed-held (some p) s st h fo k =
       let end = flag-ends g e z in
@@ -403,19 +404,19 @@ module _ (g : Agreed) (law : check.Sound (g .check)) (m : Option (List ℕ)) (ql
 
   -- D1
   resumes-low : Stock g ql al bl → Waiting g ql → Holding (laneD ql al) (ql .position) e → n ≡ 0 → z ≡ 0 → Ready g e → e .state .framed ≡ false
-      → Follows (laneD ql al) (ql .position) n z (work (receive e 0xD1 .after))
+      → Follows (laneD ql al) (ql .position) n z (work (cobsReceive e 0xD1 .after))
   resumes-low st wait hd h k r out =
       rw (passes-plain g e r 0xD1 (λ q. omega arith) (λ q. omega arith))
       (follows-at (laneD ql al) _ refl (sym h) (sym k)
       (resumes g e r (laneD ql al) (ql .position) hd out (wait .pre)
       (omega (arith, wait .short, bounds.data-long g ql al (stock-fits g ql al bl st)))))
 
-  D1-steps : Ready g e → e .state .framed ≡ false → InStep 0 (receive e 0xD1 .after .state)
+  D1-steps : Ready g e → e .state .framed ≡ false → InStep 0 (cobsReceive e 0xD1 .after .state)
   D1-steps r out = rw (passes-plain g e r 0xD1 (λ q. omega arith) (λ q. omega arith)) (D1-in-step g e r out)
 
   resumed-low : (b s : Bool) → Sound g (station (sender ql qh n z noLane true false t) al ah bl bh)
       → Lock g m b s (station (sender ql qh n z noLane true false t) al ah bl bh) e
-      → OnLow b false s ql al n z (receive e 0xD1 .after)
+      → OnLow b false s ql al n z (cobsReceive e 0xD1 .after)
   resumed-low false s i k =
       let none·left = i .in·bounds .line in (
         resumes-low (i .stock·low) (i .line .1) (k .along .1 .1) (none·left .0) (none·left .1) (k .ready) (k .along .0),

@@ -19,8 +19,9 @@ use Rattle.link.specs.Agreed.{Agreed, agreed, leastFrame, mostDecoded, S
 use Rattle.link.specs.Answers.{refused}
 use Rattle.link.specs.Sender.{putFrame, load, step4BreakOff, step5Data, step6Code, steps3To6, step2NoLane, steps1To6, next}
 use Rattle.link.specs.Sender as sender
-use Rattle.link.specs.Receiver.{Working, ReceiverEnd, Receive, Ended, isNoBlock, isD0, step3Decode, step3Data, step2ByMeaning, step2Code, step1ResumeHeld, step1D1, step1FirstOctet, steps1To4, step5WithoutPhantom, step5Flag, atFlag, work, aside, putBack, flagged, receive}
+use Rattle.link.specs.Receiver.{readingOff, Working, ReceiverEnd, Receive, Ended, isNoBlock, isD0, step3Decode, step3Data, step2ByMeaning, step2Code, step1ResumeHeld, step1D1, step1FirstOctet, steps1To4, step5WithoutPhantom, step5Flag, atFlag, work, aside, putBack, flagged, receive}
 use Rattle.link.specs.Receiver as receiver
+use Rattle.link.specs.ReceiverParts.{ReceiverReady}
 use Rattle.link.specs.Runs.{afterLoad, afterNext, run, written, receives, notQuiet, received, underWay, leftAside}
 use Rattle.link.specs.Demands.{freshReceiver}
 use Rattle.link.specs.Marked.{bits16, Case, refusedTen, Says, receiverArea, cases, MarkedCases, AtWork, freshEnd}
@@ -29,7 +30,10 @@ use Rattle.link.proofs.Tests.{if-so, if-not, true-false}
 use Rattle.link.proofs.ReceiverBounds.{Ready, receive-flag, receive-other, receive-ready}
 use Rattle.link.proofs.Follow.{steps-code, code-is}
 use Rattle.link.proofs.UnderWay.{lanes}
-use Rattle.link.proofs.Demands.{ready-fresh}
+use Rattle.link.proofs.Cobs.{cobsReceive, cobsReceived}
+use Rattle.link.proofs.Whole.{ready-of}
+use Rattle.link.proofs.AsCobs.{off-flag}
+use Rattle.link.proofs.Demands.{fresh-ready}
 use Rattle.link.proofs.AnyBlocks.{received-append}
 
 abbrev AllHold : List Case → Type 0
@@ -59,7 +63,7 @@ module _ (g : Agreed) (zxe : g .zxe ≡ true) (n z : ℕ) (h : 3 ≤ z) (k : z �
   abbrev begun : Working
   begun = record { state = receiver.step2BeginBlock (receiver.lastBlock (0xD0 + z)) 0 0 (e .state); area = work e .area }
 
-  run-is : receive e (0xD0 + z) .after ≡ putBack e (step3Decode g (replicate z 0) begun)
+  run-is : cobsReceive e (0xD0 + z) .after ≡ putBack e (step3Decode g (replicate z 0) begun)
   unfolding step2ByMeaning
   run-is =
       ap (λ (r : Receive). r .after) (receive-other g e (d .ready) (0xD0 + z) (λ q. omega arith))
@@ -71,11 +75,11 @@ module _ (g : Agreed) (zxe : g .zxe ≡ true) (n z : ℕ) (h : 3 ≤ z) (k : z �
   size : length {A = ℕ} (replicate z 0) ≡ z
   size = length-replicate z 0
 
-  run-on : n + z ≤ mostDecoded g → Decoded g (n + z) (receive e (0xD0 + z) .after)
+  run-on : n + z ≤ mostDecoded g → Decoded g (n + z) (cobsReceive e (0xD0 + z) .after)
   unfolding step3Decode
   run-on room =
       let ready = receive-ready g e (0xD0 + z) (d .ready) in
-      let is : receive e (0xD0 + z) .after ≡ putBack e (receiver.step3Write (replicate z 0) begun) =
+      let is : cobsReceive e (0xD0 + z) .after ≡ putBack e (receiver.step3Write (replicate z 0) begun) =
       run-is ∙ ap (putBack e) (if-not _ _ _ (le-ltb (mostDecoded g) (e .state .decoded + length {A = ℕ} (replicate z 0)) (omega (arith, size, d .count)))) in
       record {
         ready = ready;
@@ -84,27 +88,27 @@ module _ (g : Agreed) (zxe : g .zxe ≡ true) (n z : ℕ) (h : 3 ≤ z) (k : z �
         count = rw is (omega (arith, size, d .count));
       }
 
-  run-over : mostDecoded g < n + z → receive e (0xD0 + z) .after .state .refusal ≡ 10
+  run-over : mostDecoded g < n + z → cobsReceive e (0xD0 + z) .after .state .refusal ≡ 10
   unfolding step3Decode
   run-over over =
       ap (λ (r : ReceiverEnd). r .state .refusal)
       (run-is ∙ ap (putBack e) (if-so _ _ _ (lt-ltb (mostDecoded g) (e .state .decoded + length {A = ℕ} (replicate z 0)) (omega (arith, size, d .count)))))
 
 runs : (g : Agreed) → g .zxe ≡ true → (m n : ℕ) (e : ReceiverEnd) → n + 15 * m ≤ mostDecoded g → Decoded g n e
-    → Decoded g (n + 15 * m) (received e (replicate m 0xDF))
-unfolding received
+    → Decoded g (n + 15 * m) (cobsReceived e (replicate m 0xDF))
+unfolding cobsReceived
 runs g zxe zero n e room d = subst (λ (k : ℕ). Decoded g k e) (omega arith) d
 runs g zxe (suc m) n e room d =
-    subst (λ (k : ℕ). Decoded g k (received (receive e 0xDF .after) (replicate m 0xDF))) (omega arith)
-    (runs g zxe m (n + 15) (receive e 0xDF .after) (omega arith) (run-on g zxe n 15 (omega arith) (omega arith) e d (omega arith)))
+    subst (λ (k : ℕ). Decoded g k (cobsReceived (cobsReceive e 0xDF .after) (replicate m 0xDF))) (omega arith)
+    (runs g zxe m (n + 15) (cobsReceive e 0xDF .after) (omega arith) (run-on g zxe n 15 (omega arith) (omega arith) e d (omega arith)))
 
-then : (e : ReceiverEnd) (xs : List ℕ) (x : ℕ) → received e (xs ++ (x ∷ [])) ≡ receive (received e xs) x .after
-unfolding received
+then : (e : ReceiverEnd) (xs : List ℕ) (x : ℕ) → cobsReceived e (xs ++ (x ∷ [])) ≡ cobsReceive (cobsReceived e xs) x .after
+unfolding cobsReceived
 then e xs x = received-append e xs (x ∷ [])
 
 -- at the flag the remembered refusal is reported; with none remembered it isn't 10
 module _ (g : Agreed) (e : ReceiverEnd) (z : Ready g e) where
-  told-refusal : (n : ℕ) → e .state .refusal ≡ suc n → receive e flag .report ≡ refused (suc n)
+  told-refusal : (n : ℕ) → e .state .refusal ≡ suc n → cobsReceive e flag .report ≡ refused (suc n)
   unfolding atFlag step5Flag
   told-refusal n q =
       let some : e .state .refusal ≡ 0 → ⊥ = (λ p. omega arith) in
@@ -113,7 +117,7 @@ module _ (g : Agreed) (e : ReceiverEnd) (z : Ready g e) where
       (receive-flag g e z ∙ ap (flagged e) (if-so _ _ _ framed ∙ if-so _ _ _ (ap not (ne-eqb (e .state .refusal) 0 some))))
       ∙ ap refused q
 
-  not-ten : e .state .refusal ≡ 0 → receive e flag .report ≡ refused 10 → ⊥
+  not-ten : e .state .refusal ≡ 0 → cobsReceive e flag .report ≡ refused 10 → ⊥
   unfolding atFlag step5Flag step5WithoutPhantom
   not-ten clean =
       let r = e .state in
@@ -142,23 +146,26 @@ module _ (m : ℕ) (t : Settings) (v : valid (agreed t) ≡ true) (zxe : agreed 
   long-enough : mostDecoded g ≤ length (receiverArea t)
   long-enough = omega (arith, length-replicate {A = ℕ} (mostDecoded g) 0)
 
-  many : Decoded g (15 * m) (received (freshEnd t) line)
+  fresh-off : ReceiverReady (freshEnd t)
+  fresh-off = fresh-ready t readingOff v (receiverArea t) (receiverArea t) long-enough long-enough
+
+  many : Decoded g (15 * m) (cobsReceived (freshEnd t) line)
   many =
-      subst (λ (k : ℕ). Decoded g k (received (freshEnd t) line)) (omega arith)
+      subst (λ (k : ℕ). Decoded g k (cobsReceived (freshEnd t) line)) (omega arith)
       (runs g zxe m 0 (freshEnd t) (omega arith)
-      (record { ready = ready-fresh t v (receiverArea t) (receiverArea t) long-enough long-enough; clean = refl; left·0 = refl; count = refl }))
+      (record { ready = ready-of _ fresh-off refl; clean = refl; left·0 = refl; count = refl }))
 
   within : 15 * m + z ≤ mostDecoded g → Says (refusedTen t (line ++ ((0xD0 + z) ∷ [])) false)
   within h =
-      let e = received (freshEnd t) line in
+      let e = cobsReceived (freshEnd t) line in
       let d = run-on g zxe (15 * m) z least most e many (omega arith) in
-      rw (then (freshEnd t) line (0xD0 + z)) (not-ten g (receive e (0xD0 + z) .after) (d .ready) (d .clean))
+      rw (off-flag (line ++ ((0xD0 + z) ∷ [])) (freshEnd t) fresh-off refl, then (freshEnd t) line (0xD0 + z)) (not-ten g (cobsReceive e (0xD0 + z) .after) (d .ready) (d .clean))
 
   over : mostDecoded g < 15 * m + z → Says (refusedTen t (line ++ ((0xD0 + z) ∷ [])) true)
   over h =
-      let e = received (freshEnd t) line in
-      rw (then (freshEnd t) line (0xD0 + z))
-      (told-refusal g (receive e (0xD0 + z) .after) (receive-ready g e (0xD0 + z) (many .ready)) 9
+      let e = cobsReceived (freshEnd t) line in
+      rw (off-flag (line ++ ((0xD0 + z) ∷ [])) (freshEnd t) fresh-off refl, then (freshEnd t) line (0xD0 + z))
+      (told-refusal g (cobsReceive e (0xD0 + z) .after) (receive-ready g e (0xD0 + z) (many .ready)) 9
       (run-over g zxe (15 * m) z least most e many (omega arith)))
 
 -- 2,051 octets, and more, with 16 bits; 137 times DF, for the examples

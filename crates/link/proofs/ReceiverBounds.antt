@@ -1,5 +1,5 @@
--- The receiver by itself: on areas that are long enough no octet is refused, each leaves the state in bounds, all but flags are Quiet, and
--- after a flag the receiver is out of a frame.
+-- The receiver by itself, while COBS is read: on areas that are long enough no octet is refused, each leaves the state in bounds, all but flags
+-- are Quiet, and after a flag the receiver is out of a frame.
 use mathlib.Core.Path.{_≡_, refl, sym, ap, subst, _∙_}
 use mathlib.Core.Bool.{Bool, true, false, cond, not, _&&_, _||_}
 use mathlib.Core.List.{List, [], _∷_}
@@ -18,8 +18,9 @@ use Rattle.cobs.proofs.Tests.{branch, decide, and-left, and-right}
 use Rattle.cobs.proofs.Table.{read-row, numbers}
 use Rattle.link.specs.Agreed.{Settings, Agreed, agreed, valid, leastFrame, mostDecoded}
 use Rattle.link.specs.Answers.{Answer, done, octet, idle, quiet, packet, held, refused}
-use Rattle.link.specs.Receiver.{Fragment, nothingHeld, holds, LastBlock, noBlock, blockD0, otherBlock, Receiver, Working, ReceiverEnd, Receive, Ended, outOfFrame, withDue, step2BeginBlock, isNoBlock, isD0, letGo, heldOk, freshOk, lastBlockOk, refusalOk, inBounds, step4Remember, step4Refuse, step3Write, step3Decode, step3Data, lastBlock, step2ByMeaning, step2Code, step1ResumeHeld, step1D1, step1FirstOctet, steps1To4, frameOver, step5End, step5Hold, step5WithoutPhantom, step5Flag, atFlag, areaOf, work, aside, putBack, flagged, receive}
+use Rattle.link.specs.Receiver.{Fragment, nothingHeld, holds, LastBlock, noBlock, blockD0, otherBlock, Mode, Receiver, Working, ReceiverEnd, Receive, Ended, fresh, outOfFrame, withDue, step2BeginBlock, isNoBlock, isD0, isOff, isPlain, isEscaped, letGo, heldOk, noBlockOpen, freshOk, lastBlockOk, refusalOk, modeOk, inBounds, step4Remember, step4Refuse, step3Write, step3Decode, step3Data, lastBlock, step2ByMeaning, step2Code, step1ResumeHeld, step1D1, step1FirstOctet, steps1To4, frameOver, step5End, step5Hold, step5WithoutPhantom, step5Flag, atFlag, areaOf, work, aside, putBack, flagged}
 use Rattle.link.proofs.Agreed.{sound-check}
+use Rattle.link.proofs.Cobs.{cobsReceive, not-escaped}
 use Rattle.link.proofs.Tests.{if-so, if-not, ands, true-false, false-true, or-cases}
 use Rattle.link.proofs.Write.{length-write}
 
@@ -77,24 +78,53 @@ block-ok noBlock r h = h
 block-ok blockD0 r h = refl
 block-ok otherBlock r h = decide (ltb 0 (r .left)) (λ e. rw e) (λ e. rw e (lt-ltb 0 (r .decoded) (omega (arith, ltb-false 0 (r .left) e))))
 
-fresh-ok : (r : Receiver) → FreshOk r → freshOk r ≡ true
+pub fresh-ok : (r : Receiver) → FreshOk r → freshOk r ≡ true
 fresh-ok r h = rw (h .decoded·0, h .left·0, h .zeros·0, h .last·0, h .resumed·0, h .refusal·0)
 
-pub in-bounds : (g : Agreed) (r : Receiver) → Bounds g r → inBounds g r ≡ true
+-- what the mode asks, while COBS is read
+mode-ok : (r : Receiver) → isPlain (r .mode) ≡ false → (r .refusal ≡ 5 → isOff (r .mode) ≡ true) → modeOk r ≡ true
+mode-ok r p h = rw (p, not-escaped (r .mode) p) (decide (eqb (r .refusal) 5) (λ e. rw (e, h (eqb-true _ _ e))) (λ e. rw e))
+
+-- whatever is read
+pub record Counts (g : Agreed) (r : Receiver) : Type 0 where
+  pub deep : r .decoded ≤ mostDecoded g
+  pub holds : HeldOk g (r .held)
+  pub few : r .left ≤ 207
+  pub two : r .zeros ≤ 2
+  pub refusals : (r .refusal ≡ 0 → ⊥) → Remembered (r .refusal)
+  pub restart : r .refusal ≡ 5 → r .held ≡ nothingHeld
+  pub mode : modeOk r ≡ true
+  pub frame : cond (r .framed) (isPlain (r .mode) || not (eqb (r .refusal) 0) || lastBlockOk (r .last) r) (freshOk r) ≡ true
+
+pub ok-in-bounds : (g : Agreed) (r : Receiver) → Counts g r → inBounds g r ≡ true
 unfolding inBounds
-in-bounds g r h =
+ok-in-bounds g r h =
     rw (
       le-leb (r .decoded) (mostDecoded g) (h .deep),
       held-ok g (r .refusal) (r .held) (h .holds) (h .restart),
       le-leb (r .left) 207 (h .few),
       le-leb (r .zeros) 2 (h .two),
       refusal-ok (r .refusal) (h .refusals),
+      h .mode,
     )
-    (branch (λ b. b ≡ true) (r .framed)
-    (λ e. decide (eqb (r .refusal) 0)
-    (λ f. rw f (block-ok (r .last) r (h .begun e (eqb-true (r .refusal) 0 f))))
-    (λ f. rw f))
-    (λ e. fresh-ok r (h .out e)))
+    (h .frame)
+
+pub in-bounds : (g : Agreed) (r : Receiver) → isPlain (r .mode) ≡ false → (r .refusal ≡ 5 → isOff (r .mode) ≡ true) → Bounds g r → inBounds g r ≡ true
+in-bounds g r p five h =
+    ok-in-bounds g r
+    (record {
+      deep = h .deep;
+      holds = h .holds;
+      few = h .few;
+      two = h .two;
+      refusals = h .refusals;
+      restart = h .restart;
+      mode = mode-ok r p five;
+      frame =
+          branch (λ b. b ≡ true) (r .framed)
+          (λ e. rw p (decide (eqb (r .refusal) 0) (λ f. rw f (block-ok (r .last) r (h .begun e (eqb-true (r .refusal) 0 f)))) (λ f. rw f)))
+          (λ e. fresh-ok r (h .out e));
+    })
 
 -- and the test tells the facts
 pub ok-held : (g : Agreed) (m : ℕ) (h : Fragment) → heldOk g m h ≡ true → HeldOk g h
@@ -123,7 +153,7 @@ ok-block otherBlock r e =
     (λ k. omega (arith, ltb-true 0 (r .left) k))
     (λ k. omega (arith, ltb-true 0 (r .decoded) k))
 
-is-none : (b : LastBlock) → isNoBlock b ≡ true → b ≡ noBlock
+pub is-none : (b : LastBlock) → isNoBlock b ≡ true → b ≡ noBlock
 is-none noBlock e = refl
 is-none blockD0 e = false-true e
 is-none otherBlock e = false-true e
@@ -140,13 +170,13 @@ ok-fresh r e =
       refusal·0 = eqb-true (r .refusal) 0 (all .5);
     }
 
-pub bounds : (g : Agreed) (r : Receiver) → inBounds g r ≡ true → Bounds g r
+pub counts : (g : Agreed) (r : Receiver) → inBounds g r ≡ true → Counts g r
 unfolding inBounds
-bounds g r e =
+counts g r e =
     let n = r .refusal in
-    let frame = cond (r .framed) (not (eqb n 0) || lastBlockOk (r .last) r) (freshOk r) in
-    let all = ands (leb (r .decoded) (mostDecoded g)) (heldOk g n (r .held)) (leb (r .left) 207) (leb (r .zeros) 2) (refusalOk n) frame e in
-    let in·frame : frame ≡ true = all .5 in
+    let frame = cond (r .framed) (isPlain (r .mode) || not (eqb n 0) || lastBlockOk (r .last) r) (freshOk r) in
+    let most = leb (r .decoded) (mostDecoded g) && heldOk g n (r .held) && leb (r .left) 207 && leb (r .zeros) 2 && refusalOk n && modeOk r in
+    let all = ands (leb (r .decoded) (mostDecoded g)) (heldOk g n (r .held)) (leb (r .left) 207) (leb (r .zeros) 2) (refusalOk n) (modeOk r) (and-left most frame e) in
     record {
       deep = leb-true (r .decoded) (mostDecoded g) (all .0);
       holds = ok-held g n (r .held) (all .1);
@@ -154,17 +184,37 @@ bounds g r e =
       two = leb-true (r .zeros) 2 (all .3);
       refusals = ok-refusal n (all .4);
       restart = ok-restart g n (r .held) (all .1);
-      out = λ f. ok-fresh r (sym (if-not (r .framed) _ (freshOk r) f) ∙ in·frame);
+      mode = all .5;
+      frame = and-right most frame e;
+    }
+
+pub out-fresh : (g : Agreed) (r : Receiver) → Counts g r → r .framed ≡ false → FreshOk r
+out-fresh g r c f = ok-fresh r (sym (if-not (r .framed) _ (freshOk r) f) ∙ c .frame)
+
+-- and while COBS is read
+pub bounds : (g : Agreed) (r : Receiver) → isPlain (r .mode) ≡ false → inBounds g r ≡ true → Bounds g r
+bounds g r p e =
+    let c = counts g r e in
+    let n = r .refusal in
+    record {
+      deep = c .deep;
+      holds = c .holds;
+      few = c .few;
+      two = c .two;
+      refusals = c .refusals;
+      restart = c .restart;
+      out = out-fresh g r c;
       begun =
           λ f z.
-          or-cases (not (eqb n 0)) (lastBlockOk (r .last) r) (sym (if-so (r .framed) _ _ f) ∙ in·frame)
+          or-cases (not (eqb n 0)) (lastBlockOk (r .last) r)
+          (subst (λ (b : Bool). (b || not (eqb n 0) || lastBlockOk (r .last) r) ≡ true) p (sym (if-so (r .framed) _ _ f) ∙ c .frame))
           (λ k. absurd (eqb-false n 0 (not-true (eqb n 0) k) z))
           (ok-block (r .last) r);
     }
 
 -- of these, the test of what is held
 pub ok-if-in-bounds : (g : Agreed) (r : Receiver) → inBounds g r ≡ true → heldOk g (r .refusal) (r .held) ≡ true
-ok-if-in-bounds g r e = let b = bounds g r e in held-ok g (r .refusal) (r .held) (b .holds) (b .restart)
+ok-if-in-bounds g r e = let b = counts g r e in held-ok g (r .refusal) (r .held) (b .holds) (b .restart)
 
 -- data left: the octet is a data octet
 in-frame : (g : Agreed) (r : Receiver) → Bounds g r → 0 < r .left → r .framed ≡ true
@@ -198,28 +248,13 @@ pub record Fit (g : Agreed) (w : Working) : Type 0 where
   pub long : mostDecoded g ≤ length (w .area)
 
 module _ (g : Agreed) (e : ReceiverEnd) (z : Ready g e) where
-  pub receive-flag : receive e flag ≡ flagged e (atFlag g (e .state) (work e .area))
-  unfolding receive
-  receive-flag =
-      rw (
-        z .agrees,
-        z .valid,
-        le-ltb (length (e .first)) (mostDecoded g) (z .first),
-        le-ltb (length (e .second)) (mostDecoded g) (z .second),
-        in-bounds g (e .state) (z .bounds),
-      )
+  pub receive-flag : cobsReceive e flag ≡ flagged e (atFlag g (e .state) (work e .area))
+  unfolding cobsReceive
+  receive-flag = rw (z .agrees)
 
-  pub receive-other : (x : ℕ) → (x ≡ flag → ⊥) → receive e x ≡ record { report = quiet; after = putBack e (steps1To4 g (aside e) (work e) (fromLine x)) }
-  unfolding receive
-  receive-other x other·x =
-      rw (
-        z .agrees,
-        z .valid,
-        le-ltb (length (e .first)) (mostDecoded g) (z .first),
-        le-ltb (length (e .second)) (mostDecoded g) (z .second),
-        in-bounds g (e .state) (z .bounds),
-        ne-eqb x flag other·x,
-      )
+  pub receive-other : (x : ℕ) → (x ≡ flag → ⊥) → cobsReceive e x ≡ record { report = quiet; after = putBack e (steps1To4 g (aside e) (work e) (fromLine x)) }
+  unfolding cobsReceive
+  receive-other x other·x = rw (z .agrees, ne-eqb x flag other·x)
 
   pub area-long : (b : Bool) → mostDecoded g ≤ length (areaOf b e)
   area-long b = branch (λ a. mostDecoded g ≤ length a) b (λ _. z .second) (λ _. z .first)
@@ -498,8 +533,8 @@ pub record EndsWell (g : Agreed) (t : Ended) : Type 0 where
   pub out : t .state .framed ≡ false
   pub tells : OfFrame (t .report)
 
-pub out-of-frame-in : (g : Agreed) (t : Settings) (second : Bool) (h : Fragment) → HeldOk g h → Bounds g (outOfFrame t second h)
-out-of-frame-in g t second h k =
+pub fresh-in : (g : Agreed) (t : Settings) (m : Mode) (map : ℕ) (second : Bool) (h : Fragment) → HeldOk g h → Bounds g (fresh t m map second h)
+fresh-in g t m map second h k =
     record {
       deep = omega arith;
       holds = k;
@@ -513,16 +548,16 @@ out-of-frame-in g t second h k =
 
 -- the state behind a frame that is delivered or refused: what is held is let go, or stays
 pub by-end : (P : Receiver → Type 0) (r : Receiver)
-    → (r .resumed ≡ true → P (outOfFrame (r .settings) (r .turn) nothingHeld))
-    → (r .resumed ≡ false → P (outOfFrame (r .settings) (r .turn) (r .held))) → P (frameOver (cond (r .resumed) (letGo r) r))
+    → (r .resumed ≡ true → P (outOfFrame r (r .turn) nothingHeld))
+    → (r .resumed ≡ false → P (outOfFrame r (r .turn) (r .held))) → P (frameOver (cond (r .resumed) (letGo r) r))
 by-end P r f h = branch (λ (s : Receiver). P (frameOver s)) (r .resumed) f h
 
 module _ (g : Agreed) (r : Receiver) (ag : agreed (r .settings) ≡ g) (b : Bounds g r) where
   end-frame-in : (a : Answer) → OfFrame a → EndsWell g (step5End a r)
   end-frame-in a t =
       by-end (λ (s : Receiver). EndsWell g (record { report = a; state = s })) r
-      (λ _. record { agrees = ag; bounds = out-of-frame-in g _ _ _ tt; out = refl; tells = t })
-      (λ _. record { agrees = ag; bounds = out-of-frame-in g _ _ _ (b .holds); out = refl; tells = t })
+      (λ _. record { agrees = ag; bounds = fresh-in g _ _ _ _ _ tt; out = refl; tells = t })
+      (λ _. record { agrees = ag; bounds = fresh-in g _ _ _ _ _ (b .holds); out = refl; tells = t })
 
   -- the register keeps to its width
   register-fits : (s : List ℕ) → register (g .check) s ≤ ones (g .check)
@@ -532,7 +567,7 @@ module _ (g : Agreed) (r : Receiver) (ag : agreed (r .settings) ≡ g) (b : Boun
       omega arith
 
   hold-in : (area : List ℕ) → EndsWell g (step5Hold g r area)
-  hold-in area = record { agrees = ag; bounds = out-of-frame-in g _ _ _ (b .deep, register-fits (take (r .decoded) area)); out = refl; tells = tt }
+  hold-in area = record { agrees = ag; bounds = fresh-in g _ _ _ _ _ (b .deep, register-fits (take (r .decoded) area)); out = refl; tells = tt }
 
   without-phantom-in : (area : List ℕ) (n : ℕ) → EndsWell g (step5WithoutPhantom g r area n)
   unfolding step5WithoutPhantom
@@ -563,7 +598,7 @@ pub record AfterFlag (g : Agreed) (h : Receive) : Type 0 where
   pub out : h .after .state .framed ≡ false
   pub tells : OfFrame (h .report)
 
-pub flag-ends : (g : Agreed) (e : ReceiverEnd) → Ready g e → AfterFlag g (receive e flag)
+pub flag-ends : (g : Agreed) (e : ReceiverEnd) → Ready g e → AfterFlag g (cobsReceive e flag)
 flag-ends g e z =
     let t = flag-in g (e .state) (z .agrees) (z .bounds) (work e .area) in
     rw (receive-flag g e z)
@@ -577,11 +612,11 @@ pub record AfterOctet (g : Agreed) (h : Receive) : Type 0 where
   pub ready : Ready g (h .after)
   pub silent : h .report ≡ quiet
 
-pub other-passes : (g : Agreed) (e : ReceiverEnd) (x : ℕ) → (x ≡ flag → ⊥) → Ready g e → AfterOctet g (receive e x)
+pub other-passes : (g : Agreed) (e : ReceiverEnd) (x : ℕ) → (x ≡ flag → ⊥) → Ready g e → AfterOctet g (cobsReceive e x)
 other-passes g e x other·x z =
     rw (receive-other g e z x other·x)
     (record { ready = put-back-ready g e z _ (steps-in g (aside e) (work e) (fromLine x) (fit-work g e z)); silent = refl })
 
-pub receive-ready : (g : Agreed) (e : ReceiverEnd) (x : ℕ) → Ready g e → Ready g (receive e x .after)
+pub receive-ready : (g : Agreed) (e : ReceiverEnd) (x : ℕ) → Ready g e → Ready g (cobsReceive e x .after)
 receive-ready g e x z =
     decide (eqb x flag) (λ k. rw (eqb-true x flag k) (flag-ends g e z .ready)) (λ k. other-passes g e x (eqb-false x flag k) z .ready)

@@ -15,7 +15,8 @@ use Rattle.cobs.proofs.Tests.{branch, decide}
 use Rattle.cobs.proofs.Table.{Row, row-read}
 use Rattle.link.specs.Agreed.{Agreed, leastFrame, mostDecoded}
 use Rattle.link.specs.Answers.{quiet}
-use Rattle.link.specs.Receiver.{Fragment, nothingHeld, holds, Receiver, Working, ReceiverEnd, Ended, isNoBlock, isD0, step4Refuse, step3Decode, step3Data, step2ByMeaning, step2Code, step1ResumeHeld, step1D1, step1FirstOctet, steps1To4, step5WithoutPhantom, step5Flag, atFlag, work, aside, putBack, receive}
+use Rattle.link.specs.Receiver.{Fragment, nothingHeld, holds, Receiver, Working, ReceiverEnd, Ended, isNoBlock, isD0, step4Refuse, step3Decode, step3Data, step2ByMeaning, step2Code, step1ResumeHeld, step1D1, step1FirstOctet, steps1To4, step5WithoutPhantom, step5Flag, atFlag, work, aside, putBack}
+use Rattle.link.proofs.Cobs.{cobsReceive}
 use Rattle.link.proofs.Tests.{if-so, if-not, true-false}
 use Rattle.link.proofs.ReceiverBounds.{Ready, receive-flag, receive-other, first-octet, by-end}
 use Rattle.link.proofs.Follow.{code-is}
@@ -111,7 +112,7 @@ module _ (g : Agreed) (e : ReceiverEnd) (z : Ready g e) where
 
   -- the call for it
   pub D1-does : s .framed ≡ false → (x : ℕ) → (x ≡ flag → ⊥) → fromLine x ≡ 0xD1
-      → receive e x ≡ record { report = quiet; after = putBack e (record { state = step1D1 g (aside e) s; area = work e .area }) }
+      → cobsReceive e x ≡ record { report = quiet; after = putBack e (record { state = step1D1 g (aside e) s; area = work e .area }) }
   D1-does out x other is =
       receive-other g e z x other
       ∙ ap (λ (w : Working). record { report = quiet; after = putBack e w }) (ap (steps1To4 g (aside e) (work e)) is ∙ D1-is out)
@@ -123,7 +124,7 @@ module _ (g : Agreed) (e : ReceiverEnd) (z : Ready g e) where
       (branch (InStep 0) (g .pre) (λ _. resume-in-step (s .held))
       (λ _. record { framed·is = refl; resumed·is = refl; left·is = λ c. absurd (omega arith) }))
 
-  pub leaves-nothing : InStep 0 s → receive e flag .after .state .held ≡ nothingHeld
+  pub leaves-nothing : InStep 0 s → cobsReceive e flag .after .state .held ≡ nothingHeld
   unfolding atFlag step5Flag step5WithoutPhantom
   leaves-nothing i =
       let P : Ended → Type 0 = λ t. t .state .held ≡ nothingHeld in

@@ -8,7 +8,7 @@
 --   receiver's call   Report::Quiet                        Quiet
 --                     Report::Packet { second, length }    Packet: its area (second: whether it is the second), its length less the FCS
 --                     Report::Held { count, replaced }     Held: the count of decoded octets, and whether it replaced an older held fragment
---                     Report::Refused(n)                   refusal n: 5 to 14 or 21 of a frame, 2 or 3 of the call
+--                     Report::Refused(n)                   refusal n: 5 to 14, 18 or 21 of a frame, 2 or 3 of the call
 use mathlib.Core.Bool.{Bool, true, false}
 use Prim.Native.Nat.{ℕ}
 use Rattle.link.specs.declared.sender.LoadAnswer.{LoadAnswer}

@@ -1,9 +1,10 @@
 -- The demands (docs/DEMANDS.md), each proved in proofs/. What a call answers is said by its contract; here is what follows of all calls.
-use mathlib.Core.Bool.{Bool, true, false, not, _&&_}
+use mathlib.Core.Bool.{Bool, true, false, not, _&&_, _||_}
 use mathlib.Core.List.{List, [], _∷_, _++_, map, List·Memᴰ}
 use mathlib.Core.Option.{Option, some}
 use mathlib.Core.Path.{_≡_}
 use Prim.Native.Nat.{ℕ, _+_, _/_, _^_, _≤_}
+use lib.Dec.{eqb}
 use lib.ListN.{length, take, replicate}
 use Rattle.fcs.specs.CheckSequence.{width, register, Burst}
 use Rattle.cobs.specs.CodeBlocks.{frame, withPhantom, flag, Block, AllAllowed, decodedOctets, lineOctets}
@@ -11,7 +12,7 @@ use Rattle.link.specs.Agreed.{Settings, agreed, valid, leastPacket, larg
 use Rattle.link.specs.Answers.{Answer, octet, idle, quiet, held, refused}
 use Rattle.link.specs.Sender.{Lane, low, high, Sender, SenderEnd, outAnswer, load, next}
 use Rattle.link.specs.Sender as sender
-use Rattle.link.specs.Receiver.{Fragment, nothingHeld, holds, Receiver, ReceiverEnd, Receive, areaOf, aside, carried, receive}
+use Rattle.link.specs.Receiver.{Fragment, nothingHeld, holds, keptOff, cobs, plain, PlainReading, Receiver, ReceiverEnd, Receive, areaOf, aside, carried, isPlain, putBack, receive}
 use Rattle.link.specs.Receiver as receiver
 use Rattle.link.specs.ReceiverParts.{ReceiverReady}
 use Rattle.link.specs.Runs.{SenderCall, loading, nextOctet, Station, freshStation, afterNext, run, senderAnswers, loadedInto, Written, written, writtenOctets, sentBy, atTrue, atFalse, receives, received, packetIn, packetsIn, refusalsIn, underWay, leftAside, AllArrive, AllAsExpected, closedPackets}
@@ -29,14 +30,14 @@ pub record KeepBounds : Type 0 where
       → receiver.inBounds (agreed (receive e x .after .state .settings)) (receive e x .after .state) ≡ true
 
 -- a run from a fresh end is never refused 3
-abbrev pub freshReceiver : Settings → List ℕ → List ℕ → ReceiverEnd
-freshReceiver settings first second = record { state = receiver.openedReceiver settings; first = first; second = second }
+abbrev pub freshReceiver : Settings → PlainReading → List ℕ → List ℕ → ReceiverEnd
+freshReceiver settings reading first second = record { state = receiver.openedReceiver settings reading; first = first; second = second }
 
 pub record NeverOutOfBounds : Type 0 where
   pub sender : (settings : Settings) → valid (agreed settings) ≡ true → (low high : List ℕ) (calls : List SenderCall)
       → List·Memᴰ (refused 3) (senderAnswers (freshStation settings low high) calls) → ⊥
-  pub receiver : (settings : Settings) → valid (agreed settings) ≡ true → (first second : List ℕ) (line : List ℕ)
-      → List·Memᴰ (refused 3) (map (λ (h : Receive). h .report) (receives (freshReceiver settings first second) line)) → ⊥
+  pub receiver : (settings : Settings) (reading : PlainReading) → valid (agreed settings) ≡ true → (first second : List ℕ) (line : List ℕ)
+      → List·Memᴰ (refused 3) (map (λ (h : Receive). h .report) (receives (freshReceiver settings reading first second) line)) → ⊥
 
 -- ---- demands 2 and 3
 
@@ -47,16 +48,16 @@ pub record PacketsComeThrough (replaces : Bool) (es : List Written) (hs : List R
   pub packets : packetsIn hs ≡ closedPackets es
   pub refusals : refusalsIn hs ≡ []
 
--- Demand 2, any list of calls: between fresh ends of the same settings, octet, width and limit, every closed packet is reported at its closing
+-- Demand 2, any list of calls: between fresh ends of the same settings, octet, width and limit, with plain reading off or on, every closed packet is reported at its closing
 -- flag, in order, nothing is refused, and no fragment takes another's place. No octet and no report is left out.
-abbrev pub SoundLine : Settings → Type 0
-SoundLine settings =
+abbrev pub SoundLine : Settings → PlainReading → Type 0
+SoundLine settings reading =
     (low high first second : List ℕ)
     → mostDecoded (agreed settings) ≤ length first
     → mostDecoded (agreed settings) ≤ length second
     → (calls : List SenderCall)
     → (let es = written (freshStation settings low high) calls in
-    PacketsComeThrough false es (receives (freshReceiver settings first second) (writtenOctets es)))
+    PacketsComeThrough false es (receives (freshReceiver settings reading first second) (writtenOctets es)))
 
 -- all areas are long enough for the calls of both ends to be taken
 pub record LongEnough (settings : Settings) (lowArea highArea firstArea secondArea : List ℕ) : Type 0 where
@@ -67,8 +68,8 @@ pub record LongEnough (settings : Settings) (lowArea highArea firstArea secondAr
 
 -- Demand 2, nothing loaded is lost, nothing is late: after any list of calls, so many next-octet calls as `callsToEmpty` says, or more.
 -- Then the sender is idle; and the packets reported at the octets of either lane are those that were loaded into it, in order.
-abbrev pub NothingLoadedIsLost : Settings → Type 0
-NothingLoadedIsLost settings =
+abbrev pub NothingLoadedIsLost : Settings → PlainReading → Type 0
+NothingLoadedIsLost settings reading =
     (low high first second : List ℕ)
     → LongEnough settings low high first second
     → (calls : List SenderCall)
@@ -78,12 +79,12 @@ NothingLoadedIsLost settings =
     let es = written w all in
     callsToEmpty (run w calls .end .state) ≤ n
     → (outAnswer (next (run w all .end) .out) ≡ idle)
-    × ((l : Lane) → packetsIn (atTrue (sentBy l es) (receives (freshReceiver settings first second) (writtenOctets es))) ≡ loadedInto l w calls))
+    × ((l : Lane) → packetsIn (atTrue (sentBy l es) (receives (freshReceiver settings reading first second) (writtenOctets es))) ≡ loadedInto l w calls))
 
 -- Demand 2, one packet: loaded into either lane of a fresh sender it is delivered, unaltered and alone, by n + 1 + floor(n / 207) calls of
 -- next octet and one for the flag, n the octets of its frame.
-abbrev pub Delivery : Settings → Type 0
-Delivery settings =
+abbrev pub Delivery : Settings → PlainReading → Type 0
+Delivery settings reading =
     (low high first second : List ℕ)
     → LongEnough settings low high first second
     → (l : Lane)
@@ -92,13 +93,13 @@ Delivery settings =
     → length p ≤ agreed settings .limit
     → (let n = length (frame (agreed settings .check) p) in
     let es = written (freshStation settings low high) (loading l p ∷ replicate (n + 1 + n / 207 + 1) nextOctet) in
-    packetsIn (receives (freshReceiver settings first second) (writtenOctets es)) ≡ p ∷ [])
+    packetsIn (receives (freshReceiver settings reading first second) (writtenOctets es)) ≡ p ∷ [])
 
 -- And from any sender that keeps to the code table, whatever blocks it chooses: a frame of blocks that the table allows is reported at its
--- flag, by every receiver that is out of a frame, in bounds and with areas long enough.
+-- flag, by every receiver that reads COBS and is out of a frame, in bounds and with areas long enough.
 abbrev pub AnyBlocks : Type 0
 AnyBlocks =
-    (e : ReceiverEnd) → ReceiverReady e → e .state .framed ≡ false
+    (e : ReceiverEnd) → ReceiverReady e → isPlain (e .state .mode) ≡ false → e .state .framed ≡ false
     → (bs : List Block) (p : List ℕ)
     → (let g = agreed (e .state .settings) in
     AllAllowed (g .zxe) bs
@@ -124,7 +125,13 @@ pub record AfterChosenFlag (upTo : List Written) (w : Station) (e : ReceiverEnd)
       (atFalse (leftAside (underWay low false upTo) es) es)
       (atFalse (leftAside (underWay low false upTo) es) hs)
 
+-- Whether a frame in some octets began FF: the first of them is FF (atStart), or one behind a flag.
+abbrev pub frameBeganFF : Bool → List ℕ → Bool
+frameBeganFF atStart [] = false
+frameBeganFF atStart (x ∷ xs) = atStart && eqb x 0xFF || frameBeganFF (eqb x flag) xs
+
 -- Demand 3.
+--   plain reading is off, or it is on and no frame of the noise has FF for its first octet
 --   every list of load and next-octet calls from a fresh sender, refused ones included, and every flag written: `before`, the call that
 --   writes the chosen flag, `after`
 --   any octets on the line before that flag: `noise`
@@ -134,16 +141,17 @@ pub record AfterChosenFlag (upTo : List Written) (w : Station) (e : ReceiverEnd)
 --   the receiver's areas are long enough for its calls to be taken; were the sender's too short, no flag would be written
 --   the packet suspended at the flag is one that had sent an octet by then and is not closed: at the flags that end its frames, up to and
 --   with its closing flag, what is reported is left aside
-abbrev pub Demand3 : Settings → Type 0
-Demand3 settings =
+abbrev pub Demand3 : Settings → PlainReading → Type 0
+Demand3 settings reading =
     (low high first second : List ℕ)
     → mostDecoded (agreed settings) ≤ length first
     → mostDecoded (agreed settings) ≤ length second
     → (before after : List SenderCall)
     → (noise : List ℕ)
+    → (receiver.isOff (receiver.openedReceiver settings reading .mode) ≡ false → frameBeganFF true noise ≡ false)
     → (let v = freshStation settings low high in
     let w = run v before in
-    let e = receive (received (freshReceiver settings first second) noise) flag .after in
+    let e = receive (received (freshReceiver settings reading first second) noise) flag .after in
     let es = written (afterNext w) after in
     outAnswer (next (w .end) .out) ≡ octet flag
     → AfterChosenFlag (written v (before ++ (nextOctet ∷ []))) (afterNext w) e es (receives e (writtenOctets es)))
@@ -185,31 +193,50 @@ AreasAside = (e f : ReceiverEnd) → AreasLongEnough e → AreasLongEnough f →
 abbrev pub NoHeldReport : List Receive → Type 0
 NoHeldReport hs = (h : Receive) (n : ℕ) (replaced : Bool) → List·Memᴰ h hs → h .report ≡ held n replaced → ⊥
 
--- the receiver out of a frame, with nothing held; the settings, the turn of the areas and the areas are as they were
-abbrev pub cleared : ReceiverEnd → ReceiverEnd
-cleared e = record { state = receiver.outOfFrame (e .state .settings) (e .state .turn) nothingHeld; first = e .first; second = e .second }
+-- the receiver out of a frame, with nothing held; the settings, the mode and the map, the turn of the areas and the areas are as they were
+abbrev pub clearedState : Receiver → Receiver
+clearedState r = receiver.fresh (r .settings) (r .mode) (r .map) (r .turn) nothingHeld
 
--- e: any receiver that is out of a frame, in bounds and with areas long enough, whatever it holds
---   atOnce: the FF is Quiet. From it on 5 is remembered and nothing is held; all else is as opened, but for the turn of the areas, and no octet
+abbrev pub cleared : ReceiverEnd → ReceiverEnd
+cleared e = record { state = clearedState (e .state); first = e .first; second = e .second }
+
+-- a receiver that reads COBS and is out of a frame, in bounds and with areas long enough, whatever it holds
+pub record OutOfCobsFrame (e : ReceiverEnd) : Type 0 where
+  pub ready : ReceiverReady e
+  pub cobs : isPlain (e .state .mode) ≡ false
+  pub out : e .state .framed ≡ false
+
+--   atOnce: with plain reading off the FF is Quiet. From it on 5 is remembered and nothing is held; all else is as opened, but for the turn of the areas, and no octet
 --   of them is written
 --   frame: whatever the frame has behind its FF, its flag reports 5, and the receiver is as opened, but for the turn of the areas
---   forgets: after the FF, whatever comes, the reports, and the packets that they stand for, are those of any receiver f with the same settings
+--   atOnceOn: with plain reading on the FF is Quiet too. From it on plain PPP is read (slip 5) and nothing is held; the FF is the frame's first
+--   octet, at the start of the work area; all else is as opened, but for the turn of the areas
+--   forgets: whether plain reading is off or on: after the FF, whatever comes, the reports, and the packets that they stand for, are those of any receiver f with the same settings
 --   and turn that held nothing, whatever either has in its areas. So no fragment from before a restart is joined to anything after it
 --   untilHeld: nothing is held from the FF on, until a Held report comes
 --   noneToResume: and while nothing is held, a frame that begins D1 is refused 8, where PRE is on
 --   bounds: 5 is not remembered with something held
 pub record Restart : Type 0 where
-  pub atOnce : (e : ReceiverEnd) → ReceiverReady e → e .state .framed ≡ false
+  pub atOnce : (e : ReceiverEnd) → OutOfCobsFrame e → e .state .mode ≡ keptOff
       → receive e 0xFF
       ≡ record { report = quiet; after = record { state = receiver.inFrame receiver.noBlock false 5 (cleared e .state); first = e .first; second = e .second } }
-  pub frame : (e : ReceiverEnd) → ReceiverReady e → e .state .framed ≡ false → (rest : List ℕ) → (List·Memᴰ flag rest → ⊥)
+  pub atOnceOn : (e : ReceiverEnd) → OutOfCobsFrame e → e .state .mode ≡ cobs
+      → receive e 0xFF
+      ≡ record {
+        report = quiet;
+        after = putBack e (record {
+          state = receiver.withMode plain (receiver.inFrame receiver.noBlock false 0 (receiver.withDecoded 1 (cleared e .state)));
+          area = receiver.write (areaOf (e .state .turn) e) 0 (0xFF ∷ []);
+        });
+      }
+  pub frame : (e : ReceiverEnd) → OutOfCobsFrame e → e .state .mode ≡ keptOff → (rest : List ℕ) → (List·Memᴰ flag rest → ⊥)
       → receive (received e (0xFF ∷ rest)) flag ≡ record { report = refused 5; after = cleared e }
-  pub forgets : (e f : ReceiverEnd) → ReceiverReady e → ReceiverReady f → e .state .framed ≡ false
+  pub forgets : (e f : ReceiverEnd) → OutOfCobsFrame e → ReceiverReady f
       → f .state ≡ cleared e .state
       → (line : List ℕ) → map reportAndPacket (receives e (0xFF ∷ line)) ≡ map reportAndPacket (receives f (0xFF ∷ line))
-  pub untilHeld : (e : ReceiverEnd) → ReceiverReady e → e .state .framed ≡ false → (line : List ℕ) → NoHeldReport (receives e (0xFF ∷ line))
+  pub untilHeld : (e : ReceiverEnd) → OutOfCobsFrame e → (line : List ℕ) → NoHeldReport (receives e (0xFF ∷ line))
       → received e (0xFF ∷ line) .state .held ≡ nothingHeld
-  pub noneToResume : (e : ReceiverEnd) → ReceiverReady e → e .state .framed ≡ false → agreed (e .state .settings) .pre ≡ true → e .state .held ≡ nothingHeld
+  pub noneToResume : (e : ReceiverEnd) → OutOfCobsFrame e → agreed (e .state .settings) .pre ≡ true → e .state .held ≡ nothingHeld
       → (rest : List ℕ) → (List·Memᴰ flag rest → ⊥) → receive (received e (0xD1 ∷ rest)) flag .report ≡ refused 8
   pub bounds : (r : Receiver) (n k : ℕ) → r .refusal ≡ 5 → r .held ≡ holds n k → receiver.inBounds (agreed (r .settings)) r ≡ false
 
@@ -223,10 +250,9 @@ octetsHeld e = heldOctets (e .state .held) (aside e)
 abbrev pub Unchanged : ReceiverEnd → Type 0
 Unchanged e = (let g = agreed (e .state .settings) in register (g .check) (octetsHeld e) ≡ carried g (e .state .held))
 
--- out of a frame, in bounds and with areas long enough, PRE is on and something is held: a D1 would be neither 6 nor 8
+-- besides PRE is on and something is held: a D1 would be neither 6 nor 8
 pub record HasToResume (e : ReceiverEnd) : Type 0 where
-  pub ready : ReceiverReady e
-  pub out : e .state .framed ≡ false
+  pub at : OutOfCobsFrame e
   pub pre : agreed (e .state .settings) .pre ≡ true
   pub some : receiver.isHeld (e .state .held) ≡ true
 
@@ -252,7 +278,7 @@ pub record AreasChanged : Type 0 where
       → receive (received e (0xD1 ∷ rest)) flag ≡ record { report = refused 21; after = cleared e }
   pub only : (e : ReceiverEnd) → HasToResume e → (rest : List ℕ) → receive (received e (0xD1 ∷ rest)) flag .report ≡ refused 21 → Unchanged e → ⊥
   pub run : (e : ReceiverEnd) → Unchanged e → (e .state .refusal ≡ 21 → ⊥) → (line : List ℕ) → NeverChanged e line
-  pub fresh : (settings : Settings) (first second line : List ℕ) → NeverChanged (freshReceiver settings first second) line
+  pub fresh : (settings : Settings) (reading : PlainReading) (first second line : List ℕ) → NeverChanged (freshReceiver settings reading first second) line
   pub burst : (e f : ReceiverEnd) → Unchanged e → f .state ≡ e .state → HasToResume f
       → Burst (width (agreed (e .state .settings) .check)) (octetsHeld e) (octetsHeld f)
       → (rest : List ℕ) → (List·Memᴰ flag rest → ⊥) → receive (received f (0xD1 ∷ rest)) flag .report ≡ refused 21

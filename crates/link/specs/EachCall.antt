@@ -1,4 +1,4 @@
--- What holds of every single call (docs/DEMANDS.md; document 01, "Sender" and "Receiver"; document 02, slips 4 and 8): what it leaves as it was, and
+-- What holds of every single call (docs/DEMANDS.md; document 01, "Sender" and "Receiver"; document 02, slips 4, 5 and 8): what it leaves as it was, and
 -- what becomes of what is held. The steps say it too, each for itself; here it is said of the whole call.
 use mathlib.Core.Bool.{Bool, true, false, not, _&&_}
 use mathlib.Core.List.{List}
@@ -13,7 +13,7 @@ use Rattle.cobs.specs.CodeBlocks.{frame, flag, fromLine}
 use Rattle.link.specs.Agreed.{Settings, Agreed, agreed, validWidth, validLimit, valid, leastPacket, largestFrame, mostDecoded}
 use Rattle.link.specs.Answers.{Answer, done, octet, idle, quiet, packet, held, refused}
 use Rattle.link.specs.Sender.{Lane, noLane, Sender, SenderEnd, Load, closes, emptyLane, openedSender, openSender, laneState, withLane, outAnswer, load, next}
-use Rattle.link.specs.Receiver.{Fragment, nothingHeld, holds, noBlock, Receiver, ReceiverEnd, Receive, outOfFrame, openedReceiver, openReceiver, isHeld, areaOf, aside, receive}
+use Rattle.link.specs.Receiver.{Fragment, nothingHeld, holds, noBlock, keptOff, cobs, plain, PlainReading, Receiver, ReceiverEnd, Receive, outOfFrame, openedReceiver, openReceiver, isHeld, isPlain, beginsPlain, areaOf, aside, receive}
 use Rattle.link.specs.Sender as sender
 use Rattle.link.specs.Receiver as receiver
 use Rattle.link.specs.ReceiverParts.{ReceiverReady}
@@ -24,16 +24,17 @@ use Rattle.link.specs.ReceiverParts.{ReceiverReady}
 -- on a state that has them is refused 3, whatever else it is handed. Any other settings open an end.
 pub record ValidFirst : Type 0 where
   pub senderLimit : (settings : Settings) → validLimit (agreed settings) ≡ false → openSender settings ≡ sender.refusedOpening 23
-  pub receiverLimit : (settings : Settings) → validLimit (agreed settings) ≡ false → openReceiver settings ≡ receiver.refusedOpening 23
+  pub receiverLimit : (settings : Settings) (reading : PlainReading) → validLimit (agreed settings) ≡ false → openReceiver settings reading ≡ receiver.refusedOpening 23
   pub senderWidth : (settings : Settings) → validLimit (agreed settings) ≡ true → validWidth (agreed settings) ≡ false
       → openSender settings ≡ sender.refusedOpening 3
-  pub receiverWidth : (settings : Settings) → validLimit (agreed settings) ≡ true → validWidth (agreed settings) ≡ false
-      → openReceiver settings ≡ receiver.refusedOpening 3
+  pub receiverWidth : (settings : Settings) (reading : PlainReading) → validLimit (agreed settings) ≡ true → validWidth (agreed settings) ≡ false
+      → openReceiver settings reading ≡ receiver.refusedOpening 3
   pub load : (l : Lane) (p : List ℕ) (s : Sender) (area : List ℕ) → valid (agreed (s .settings)) ≡ false → load l p s area .answer ≡ refused 3
   pub next : (e : SenderEnd) → valid (agreed (e .state .settings)) ≡ false → outAnswer (next e .out) ≡ refused 3
   pub receive : (e : ReceiverEnd) (x : ℕ) → valid (agreed (e .state .settings)) ≡ false → receive e x .report ≡ refused 3
   pub senderOpens : (settings : Settings) → valid (agreed settings) ≡ true → openSender settings ≡ sender.opened (openedSender settings)
-  pub receiverOpens : (settings : Settings) → valid (agreed settings) ≡ true → openReceiver settings ≡ receiver.opened (openedReceiver settings)
+  pub receiverOpens : (settings : Settings) (reading : PlainReading) → valid (agreed settings) ≡ true
+      → openReceiver settings reading ≡ receiver.opened (openedReceiver settings reading)
 
 -- With valid settings an area that is too short is refused 2, whatever the state; then a state out of bounds 3, whatever else is handed in; and
 -- of a load then a lane that holds a frame 4, whatever the packet. (What 1 refuses is `PacketLengths`.)
@@ -69,7 +70,7 @@ pub record AreasThenState : Type 0 where
 
 -- ---- a refused call changes nothing
 
--- 1 to 4 refuse a call; 5 to 14 and 21 are reports of frames
+-- 1 to 4 refuse a call; 5 to 14, 18 and 21 are reports of frames
 pub record RefusedChangesNothing : Type 0 where
   pub load : (l : Lane) (p : List ℕ) (s : Sender) (area : List ℕ) (n : ℕ) → load l p s area .answer ≡ refused n
       → (load l p s area .state ≡ s) × (load l p s area .area ≡ area)
@@ -83,10 +84,25 @@ IdleChangesNothing = (e : SenderEnd) → outAnswer (next e .out) ≡ idle → ne
 -- and every call keeps the settings, the octet with all its bits; an end is opened with them
 pub record SettingsStay : Type 0 where
   pub openedSender : (settings : Settings) → openedSender settings .settings ≡ settings
-  pub openedReceiver : (settings : Settings) → openedReceiver settings .settings ≡ settings
+  pub openedReceiver : (settings : Settings) (reading : PlainReading) → openedReceiver settings reading .settings ≡ settings
   pub load : (l : Lane) (p : List ℕ) (s : Sender) (area : List ℕ) → load l p s area .state .settings ≡ s .settings
   pub next : (e : SenderEnd) → next e .state .settings ≡ e .state .settings
   pub receive : (e : ReceiverEnd) (x : ℕ) → receive e x .after .state .settings ≡ e .state .settings
+
+-- ---- what is read (slip 5)
+
+-- Every call keeps the map. Plain reading that is kept off stays off. With it on COBS is read until an FF begins a frame, and plain PPP from
+-- then on: no octet goes back to COBS, only an opening does.
+pub record ModeStays : Type 0 where
+  pub map : (e : ReceiverEnd) (x : ℕ) → receive e x .after .state .map ≡ e .state .map
+  pub off : (e : ReceiverEnd) (x : ℕ) → e .state .mode ≡ keptOff → receive e x .after .state .mode ≡ keptOff
+  pub cobs : (e : ReceiverEnd) → ReceiverReady e → (x : ℕ) → e .state .mode ≡ cobs
+      → receive e x .after .state .mode ≡ (if beginsPlain (e .state) x then plain else cobs)
+  pub plain : (e : ReceiverEnd) (x : ℕ) → isPlain (e .state .mode) ≡ true → isPlain (receive e x .after .state .mode) ≡ true
+
+-- 5 is reported with plain reading off only
+abbrev pub FiveIfOff : Type 0
+FiveIfOff = (e : ReceiverEnd) (x : ℕ) → receive e x .report ≡ refused 5 → e .state .mode ≡ keptOff
 
 -- ---- a closing flag
 
@@ -114,7 +130,7 @@ DoneLoads =
 -- ---- the numbers of a report
 
 -- A packet's length is an allowed one and within the area that is named, and with its FCS the packet passes the check. No more octets are held
--- than a receiver decodes. A refusal is from 2 to 14, or 21.
+-- than a receiver decodes. A refusal is from 2 to 14, or 18 or 21.
 abbrev pub Within : Agreed → Answer → ReceiverEnd → Type 0
 Within g done e = Unit {0}
 Within g (octet x) e = Unit {0}
@@ -126,7 +142,7 @@ Within g (packet inSecond n) e =
     × (leastPacket ≤ n)
     × (good (g .check) (take (n + g .check .fcsLength) (areaOf inSecond e)) ≡ true)
 Within g (held n replaced) e = n ≤ mostDecoded g
-Within g (refused n) e = (2 ≤ n) × ((n ≤ 14) ⊎ (n ≡ 21))
+Within g (refused n) e = (2 ≤ n) × ((n ≤ 14) ⊎ (n ≡ 18) ⊎ (n ≡ 21))
 
 -- of every call, whatever it is handed
 abbrev pub ReportsWithin : Type 0
@@ -135,10 +151,11 @@ ReportsWithin = (e : ReceiverEnd) (x : ℕ) → Within (agreed (e .state .settin
 -- ---- the receiver, in bounds and with areas long enough
 
 -- An octet x that is no flag and resumes nothing, e before it, f after it: it may be written after those decoded in the work area. All else in
--- both areas stays, and so does the turn of the areas. What is held stays too, unless x is an FF that begins a frame: then nothing is held.
+-- both areas stays, and so does the turn of the areas. What is held stays too, unless x is an FF that begins a frame in COBS: then nothing is
+-- held.
 pub record TakesIn (x : ℕ) (e f : ReceiverEnd) : Type 0 where
   pub turn : f .state .turn ≡ e .state .turn
-  pub held : f .state .held ≡ (if not (e .state .framed) && eqb (fromLine x) 0xFF then nothingHeld else e .state .held)
+  pub held : f .state .held ≡ (if not (isPlain (e .state .mode)) && not (e .state .framed) && eqb (fromLine x) 0xFF then nothingHeld else e .state .held)
   pub other : areaOf (not (e .state .turn)) f ≡ areaOf (not (e .state .turn)) e
   pub count : e .state .decoded ≤ f .state .decoded
   pub decoded : take (e .state .decoded) (areaOf (e .state .turn) f) ≡ take (e .state .decoded) (areaOf (e .state .turn) e)
@@ -153,7 +170,7 @@ pub record Resumes (n : ℕ) (e f : ReceiverEnd) : Type 0 where
   pub second : f .second ≡ e .second
 
 -- The flag of a frame.
---   The state is as fresh but for the settings, the turn and what is held; nothing is written.
+--   The state is as fresh but for the settings, the mode and the map, the turn and what is held; nothing is written.
 --   Held tells the count of decoded octets, and whether a frame that is no resumed one took an older fragment's place. The areas change turns,
 --   and the register of the decoded octets is carried.
 --   Any other report, and there is one, leaves the turn; after a resumed frame nothing is held, after another what was held.
@@ -162,11 +179,11 @@ HeldThen e h =
     (let r = e .state in
     (h .report ≡ held (r .decoded) (not (r .resumed) && isHeld (r .held)))
     × (h .after .state
-    ≡ outOfFrame (r .settings) (not (r .turn)) (holds (r .decoded) (register (agreed (r .settings) .check) (take (r .decoded) (areaOf (r .turn) e))))))
+    ≡ outOfFrame r (not (r .turn)) (holds (r .decoded) (register (agreed (r .settings) .check) (take (r .decoded) (areaOf (r .turn) e))))))
 
 pub record NotHeldThen (r : Receiver) (h : Receive) : Type 0 where
   pub fragment : Fragment
-  pub state : h .after .state ≡ outOfFrame (r .settings) (r .turn) fragment
+  pub state : h .after .state ≡ outOfFrame r (r .turn) fragment
   pub resumed : r .resumed ≡ true → fragment ≡ nothingHeld
   pub other : r .resumed ≡ false → fragment ≡ r .held
   pub noHeld : (n : ℕ) (replaced : Bool) → h .report ≡ held n replaced → ⊥
@@ -187,7 +204,8 @@ pub record BlockOver (r : Receiver) : Type 0 where
 --   frame: one report for each other frame
 --   skipped: with a refusal remembered, what still comes of the frame changes nothing
 --   remembered: with a refusal that is remembered now, the block is over
---   mark: a frame is a resumed one exactly if its first octet is D1
+--   mark: a frame is a resumed one exactly if its first octet is D1, in COBS
+--   neverHeld: in plain PPP nothing is broken off
 --   resumes, takesIn: what becomes of an octet that is no flag (and of a D1 with something held that no longer gives the register:
 --   `AreasChanged`)
 pub record ReceivesSo : Type 0 where
@@ -198,9 +216,10 @@ pub record ReceivesSo : Type 0 where
   pub remembered : (e : ReceiverEnd) → ReceiverReady e → e .state .refusal ≡ 0 → (x : ℕ) → (x ≡ flag → ⊥)
       → (receive e x .after .state .refusal ≡ 0 → ⊥) → BlockOver (receive e x .after .state)
   pub mark : (e : ReceiverEnd) → ReceiverReady e → (x : ℕ) → (x ≡ flag → ⊥)
-      → receive e x .after .state .resumed ≡ (if e .state .framed then e .state .resumed else eqb (fromLine x) 0xD1)
-  pub resumes : (e : ReceiverEnd) → ReceiverReady e → e .state .framed ≡ false → agreed (e .state .settings) .pre ≡ true → (n k : ℕ) → e .state .held ≡ holds n k
+      → receive e x .after .state .resumed ≡ (if e .state .framed then e .state .resumed else not (isPlain (e .state .mode)) && eqb (fromLine x) 0xD1)
+  pub neverHeld : (e : ReceiverEnd) (x n : ℕ) (replaced : Bool) → isPlain (e .state .mode) ≡ true → receive e x .report ≡ held n replaced → ⊥
+  pub resumes : (e : ReceiverEnd) → ReceiverReady e → isPlain (e .state .mode) ≡ false → e .state .framed ≡ false → agreed (e .state .settings) .pre ≡ true → (n k : ℕ) → e .state .held ≡ holds n k
       → register (agreed (e .state .settings) .check) (take n (aside e)) ≡ k → Resumes n e (receive e 0xD1 .after)
   pub takesIn : (e : ReceiverEnd) → ReceiverReady e → (x : ℕ) → (x ≡ flag → ⊥)
-      → (e .state .framed ≡ false → fromLine x ≡ 0xD1 → agreed (e .state .settings) .pre ≡ true → e .state .held ≡ nothingHeld)
+      → (isPlain (e .state .mode) ≡ false → e .state .framed ≡ false → fromLine x ≡ 0xD1 → agreed (e .state .settings) .pre ≡ true → e .state .held ≡ nothingHeld)
       → TakesIn x e (receive e x .after)

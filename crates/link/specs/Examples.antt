@@ -13,7 +13,7 @@ use Rattle.cobs.specs.declared.Meaning.the-variants.{InTable, NotAgreed, NoCode
 use Rattle.link.specs.Agreed.{Settings, agreed, validWidth, validLimit, valid, leastPacket, leastFrame, largestFrame, mostDecoded}
 use Rattle.link.specs.Answers.{Answer, done, octet, quiet, refused}
 use Rattle.link.specs.Sender.{Lane, low, high, sending, Sender, SenderEnd, laneState, openedSender, openSender, withLane, withBlock, withLine, withMarks, outAnswer, inBounds, load, next}
-use Rattle.link.specs.Receiver.{Fragment, nothingHeld, holds, LastBlock, noBlock, blockD0, otherBlock, Receiver, ReceiverEnd, openedReceiver, openReceiver, outOfFrame, withHeld, withDecoded, withDue, inFrame, receive}
+use Rattle.link.specs.Receiver.{Fragment, nothingHeld, holds, LastBlock, noBlock, blockD0, otherBlock, keptOff, readingOff, Receiver, ReceiverEnd, openedReceiver, openReceiver, fresh, withHeld, withDecoded, withDue, inFrame, receive}
 use Rattle.link.specs.Sender as sender
 use Rattle.link.specs.Receiver as receiver
 use Rattle.link.specs.Runs.{SenderCall, loading, nextOctet, run, senderAnswers, written, writtenOctets, received}
@@ -64,6 +64,16 @@ PacketLengths =
 
 -- ---- what an example says
 
+-- plain reading is off: an opened receiver, one out of a frame with this turn and held, a fresh one with areas
+abbrev openedOff : Settings → Receiver
+openedOff settings = openedReceiver settings readingOff
+
+abbrev outOff : Settings → Bool → Fragment → Receiver
+outOff settings = fresh settings keptOff 0
+
+abbrev freshOff : Settings → List ℕ → List ℕ → ReceiverEnd
+freshOff settings = freshReceiver settings readingOff
+
 -- bits: whether these settings allow D3-FE, and preemption
 -- case: a case in the words of the marked ones
 -- reads: with ZXE or without, what the table says of this code
@@ -104,8 +114,8 @@ Tells (case c) = marked.Says c
 Tells (reads zxe c m) = meaning zxe c ≡ m
 Tells (puts settings cs line) = writtenOctets (written (freshSender settings) cs) ≡ line
 Tells (opens settings) =
-    (openSender settings ≡ sender.opened (openedSender settings)) × (openReceiver settings ≡ receiver.opened (openedReceiver settings))
-Tells (notOpened settings n) = (openSender settings ≡ sender.refusedOpening n) × (openReceiver settings ≡ receiver.refusedOpening n)
+    (openSender settings ≡ sender.opened (openedSender settings)) × (openReceiver settings readingOff ≡ receiver.opened (openedOff settings))
+Tells (notOpened settings n) = (openSender settings ≡ sender.refusedOpening n) × (openReceiver settings readingOff ≡ receiver.refusedOpening n)
 Tells (loads l p s area a) = load l p s area .answer ≡ a
 Tells (asks e a) = outAnswer (next e .out) ≡ a
 Tells (hears e x a) = receive e x .report ≡ a
@@ -160,11 +170,11 @@ leftOver =
 
 -- a receiver in a block with so many data octets left
 abbrev inBlock : ℕ → ReceiverEnd
-inBlock n = record { state = withDue n 1 (inFrame otherBlock false 0 (openedReceiver (bits16 0x03))); first = area 2051; second = area 2051 }
+inBlock n = record { state = withDue n 1 (inFrame otherBlock false 0 (openedOff (bits16 0x03))); first = area 2051; second = area 2051 }
 
 -- a receiver that holds three octets, 00 each, without PRE
 abbrev holdsUnasked : ReceiverEnd
-holdsUnasked = record { state = outOfFrame (bits16 0x01) false (holds 3 0x3933); first = area 2051; second = area 2051 }
+holdsUnasked = record { state = outOff (bits16 0x01) false (holds 3 0x3933); first = area 2051; second = area 2051 }
 
 -- a sender with the low lane, or the high one, on the line: its length and position, data left and zeros due
 abbrev lowOn : ℕ → ℕ → ℕ → ℕ → Sender
@@ -181,7 +191,7 @@ laneOff l length position = withLane l (record { length = length; position = pos
 
 -- a receiver in a frame: last block, mark resumed, remembered refusal, decoded count, data left, zeros due
 abbrev framed : LastBlock → Bool → ℕ → ℕ → ℕ → ℕ → Receiver
-framed last resumed refusal decoded left zeros = withDue left zeros (withDecoded decoded (inFrame last resumed refusal (openedReceiver (bits16 0x03))))
+framed last resumed refusal decoded left zeros = withDue left zeros (withDecoded decoded (inFrame last resumed refusal (openedOff (bits16 0x03))))
 
 -- settings 03 with a width and a limit
 abbrev pub agreeing : ℕ → ℕ → Settings
@@ -199,15 +209,15 @@ abbrev laneHas : Settings → Lane → ℕ → Sender
 laneHas settings l length = withLane l (record { length = length; position = 0 }) (openedSender settings)
 
 abbrev holding : Settings → ℕ → Receiver
-holding settings n = outOfFrame settings true (holds n 0x4D53)
+holding settings n = outOff settings true (holds n 0x4D53)
 
 abbrev decoding : Settings → ℕ → ℕ → Receiver
-decoding settings n left = withDue left 0 (withDecoded n (inFrame otherBlock false 0 (openedReceiver settings)))
+decoding settings n left = withDue left 0 (withDecoded n (inFrame otherBlock false 0 (openedOff settings)))
 
 -- a receiver that holds a fragment in its first area, where 31 stands and this octet
 abbrev held31 : Settings → Fragment → ℕ → ReceiverEnd
 held31 settings fragment x =
-    record { state = outOfFrame settings true fragment; first = 0x31 ∷ x ∷ receiverArea settings; second = receiverArea settings }
+    record { state = outOff settings true fragment; first = 0x31 ∷ x ∷ receiverArea settings; second = receiverArea settings }
 
 -- ---- the table
 
@@ -291,8 +301,8 @@ callExamples =
     ∷ loads low (0x31 ∷ []) (leftOver .state) (area 2049) (refused 2)
     ∷ asks (record { state = openedSender (bits16 0x03); low = area 2049; high = area 2050 }) (refused 2)
     ∷ asks (record { state = openedSender (bits16 0x03); low = area 2050; high = area 2049 }) (refused 2)
-    ∷ hears (freshReceiver (bits16 0x03) (area 2050) (area 2051)) 0x7E (refused 2)
-    ∷ hears (freshReceiver (bits16 0x03) (area 2051) (area 2050)) 0x7E (refused 2)
+    ∷ hears (freshOff (bits16 0x03) (area 2050) (area 2051)) 0x7E (refused 2)
+    ∷ hears (freshOff (bits16 0x03) (area 2051) (area 2050)) 0x7E (refused 2)
     ∷ asks (record { state = leftOver .state; low = area 2050; high = area 2049 }) (refused 2)
     ∷ hears (record { state = inBlock 208 .state; first = area 2051; second = area 2050 }) 0x31 (refused 2)
     -- 3: 208 data octets left, where 207 are taken; it goes before 4 and 1
@@ -372,16 +382,16 @@ receiverBounds =
     ∷ inBoundsR (framed noBlock true 22 0 0 0) false
     ∷ inBoundsR (withHeld (holds 1 0x2F8D) (framed otherBlock false 21 2051 207 2)) true
     -- a register of the width, whatever is held
-    ∷ inBoundsR (outOfFrame (bits16 0x03) true (holds 1 0)) true
-    ∷ inBoundsR (outOfFrame (bits16 0x03) true (holds 0 0xFFFF)) true
-    ∷ inBoundsR (outOfFrame (bits16 0x03) true (holds 1 0x10000)) false
-    ∷ inBoundsR (outOfFrame (bits32 0x03) true (holds 1 0x10000)) true
-    ∷ inBoundsR (outOfFrame (bits32 0x03) true (holds 1 0xFFFFFFFF)) true
-    ∷ inBoundsR (outOfFrame (bits32 0x03) true (holds 1 0x100000000)) false
+    ∷ inBoundsR (outOff (bits16 0x03) true (holds 1 0)) true
+    ∷ inBoundsR (outOff (bits16 0x03) true (holds 0 0xFFFF)) true
+    ∷ inBoundsR (outOff (bits16 0x03) true (holds 1 0x10000)) false
+    ∷ inBoundsR (outOff (bits32 0x03) true (holds 1 0x10000)) true
+    ∷ inBoundsR (outOff (bits32 0x03) true (holds 1 0xFFFFFFFF)) true
+    ∷ inBoundsR (outOff (bits32 0x03) true (holds 1 0x100000000)) false
     -- outside a frame all else is as fresh
-    ∷ inBoundsR (withDecoded 1 (openedReceiver (bits16 0x03))) false
-    ∷ inBoundsR (withDue 1 0 (openedReceiver (bits16 0x03))) false
-    ∷ inBoundsR (withDue 0 1 (openedReceiver (bits16 0x03))) false
+    ∷ inBoundsR (withDecoded 1 (openedOff (bits16 0x03))) false
+    ∷ inBoundsR (withDue 1 0 (openedOff (bits16 0x03))) false
+    ∷ inBoundsR (withDue 0 1 (openedOff (bits16 0x03))) false
     -- in one, no block yet only behind D1; behind a block other than D0 data is left or something decoded
     ∷ inBoundsR (framed noBlock true 0 0 0 0) true
     ∷ inBoundsR (framed noBlock false 0 0 0 0) false
@@ -429,9 +439,9 @@ frameExamples =
     ∷ decodes (framed otherBlock false 0 2040 0 0) 0xDC 2040 10
     ∷ decodes (framed otherBlock false 0 2050 1 1) 0x31 2051 10
     -- nor is an octet that is refused 6, 7 or 8
-    ∷ decodes (openedReceiver (bits16 0x00)) 0xE0 0 6
+    ∷ decodes (openedOff (bits16 0x00)) 0xE0 0 6
     ∷ decodes (framed otherBlock false 0 3 0 0) 0xD2 3 7
-    ∷ decodes (openedReceiver (bits16 0x03)) 0xD1 0 8
+    ∷ decodes (openedOff (bits16 0x03)) 0xD1 0 8
     ∷ []
 
 -- what is held after a frame
@@ -499,9 +509,9 @@ changedExamples =
     -- frames that are delivered or refused, and empty ones, leave it
     ∷ leaves (freshEnd (bits16 0x03)) ((0x05 ∷ 0x31 ∷ 0x32 ∷ 0x7E ∷ []) ++ (whole ++ (0x7E ∷ 0x7E ∷ 0xD2 ∷ 0x7E ∷ []))) (holds 2 0x4D53)
     -- a held octet is changed: 21, and from the D1 on nothing is held; the areas do not change turns
-    ∷ becomes (held31 (bits16 0x03) (holds 2 0x4D53) 0x33) (0xD1 ∷ []) (inFrame noBlock true 21 (outOfFrame (bits16 0x03) true nothingHeld))
+    ∷ becomes (held31 (bits16 0x03) (holds 2 0x4D53) 0x33) (0xD1 ∷ []) (inFrame noBlock true 21 (outOff (bits16 0x03) true nothingHeld))
     ∷ reports (held31 (bits16 0x03) (holds 2 0x4D53) 0x33) (0xD1 ∷ 0x03 ∷ 0x37 ∷ 0x38 ∷ []) (refused 21)
-    ∷ becomes (held31 (bits16 0x03) (holds 2 0x4D53) 0x33) (0xD1 ∷ 0x03 ∷ 0x37 ∷ 0x38 ∷ 0x7E ∷ []) (outOfFrame (bits16 0x03) true nothingHeld)
+    ∷ becomes (held31 (bits16 0x03) (holds 2 0x4D53) 0x33) (0xD1 ∷ 0x03 ∷ 0x37 ∷ 0x38 ∷ 0x7E ∷ []) (outOff (bits16 0x03) true nothingHeld)
     ∷ reports (held31 (bits32 0x03) (holds 2 0xB0ACBB32) 0x33) (0xD1 ∷ []) (refused 21)
     -- one behind the held octets is: no matter
     ∷ reports (held31 (bits16 0x03) (holds 1 0x2F8D) 0x33) (0xD1 ∷ 0x01 ∷ []) (refused 13)
@@ -539,8 +549,8 @@ widthExamples =
     -- 2: areas that are long enough for 16 bits are not for 32
     ∷ loads low (0x31 ∷ 0x32 ∷ []) (openedSender (bits32 0x03)) (area 2051) (refused 2)
     ∷ loads low (0x31 ∷ 0x32 ∷ []) (openedSender (bits32 0x03)) (area 2052) done
-    ∷ hears (freshReceiver (bits32 0x03) (area 2053) (area 2052)) 0x7E (refused 2)
-    ∷ hears (freshReceiver (bits32 0x03) (area 2053) (area 2053)) 0x7E quiet
+    ∷ hears (freshOff (bits32 0x03) (area 2053) (area 2052)) 0x7E (refused 2)
+    ∷ hears (freshOff (bits32 0x03) (area 2053) (area 2053)) 0x7E quiet
     -- 3: the bounds
     ∷ inBoundsS (laneHas (bits32 0x03) low 5) false
     ∷ inBoundsS (laneHas (bits32 0x03) low 6) true
@@ -555,7 +565,7 @@ widthExamples =
     ∷ opens (bits32 0x03)
     ∷ loads low (0x31 ∷ []) (openedSender bits24) [] (refused 3)
     ∷ asks (record { state = openedSender bits24; low = []; high = [] }) (refused 3)
-    ∷ hears (freshReceiver bits24 [] []) 0x7E (refused 3)
+    ∷ hears (freshOff bits24 [] []) 0x7E (refused 3)
     ∷ []
 
 -- the limit: the least, the largest, and some that are out of range (document 02, slip 11)
@@ -574,14 +584,14 @@ limitExamples =
     ∷ loads low (0x31 ∷ []) (openedSender (agreeing 16 1)) [] (refused 3)
     ∷ loads low (0x31 ∷ []) (openedSender (agreeing 16 16385)) [] (refused 3)
     ∷ asks (record { state = openedSender (agreeing 16 1); low = []; high = [] }) (refused 3)
-    ∷ hears (freshReceiver (agreeing 32 16385) [] []) 0x7E (refused 3)
+    ∷ hears (freshOff (agreeing 32 16385) [] []) 0x7E (refused 3)
     -- limit 2, 1 and 2: a packet has two octets, and its area four
     ∷ loads low (0x31 ∷ 0x32 ∷ []) (openedSender (agreeing 16 2)) (area 3) (refused 2)
     ∷ loads low (0x31 ∷ 0x32 ∷ 0x33 ∷ []) (openedSender (agreeing 16 2)) (area 4) (refused 1)
     ∷ loads low (0x31 ∷ 0x32 ∷ []) (openedSender (agreeing 16 2)) (area 4) done
     ∷ asks (record { state = openedSender (agreeing 32 2); low = area 6; high = area 5 }) (refused 2)
-    ∷ hears (freshReceiver (agreeing 16 2) (area 4) (area 5)) 0x7E (refused 2)
-    ∷ hears (freshReceiver (agreeing 16 2) (area 5) (area 5)) 0x7E quiet
+    ∷ hears (freshOff (agreeing 16 2) (area 4) (area 5)) 0x7E (refused 2)
+    ∷ hears (freshOff (agreeing 16 2) (area 5) (area 5)) 0x7E quiet
     -- its lines
     ∷ case (sent (agreeing 16 2) (0x41 ∷ 0x42 ∷ []) (0x05 ∷ 0x41 ∷ 0x42 ∷ 0xEF ∷ 0x31 ∷ 0x7E ∷ []))
     ∷ case (reported (agreeing 16 2) (0x05 ∷ 0x41 ∷ 0x42 ∷ 0xEF ∷ 0x31 ∷ 0x7E ∷ []) (packetOf false (0x41 ∷ 0x42 ∷ []) ∷ []))
@@ -611,8 +621,8 @@ largestExamples =
     loads low (area 16384) (openedSender (agreeing 16 16384)) (area 16386) done
     ∷ loads low (area 16385) (openedSender (agreeing 16 16384)) (area 16386) (refused 1)
     ∷ loads low (area 2) (openedSender (agreeing 16 16384)) (area 16385) (refused 2)
-    ∷ hears (freshReceiver (agreeing 32 16384) (area 16389) (area 16388)) 0x7E (refused 2)
-    ∷ hears (freshReceiver (agreeing 32 16384) (area 16389) (area 16389)) 0x7E quiet
+    ∷ hears (freshOff (agreeing 32 16384) (area 16389) (area 16388)) 0x7E (refused 2)
+    ∷ hears (freshOff (agreeing 32 16384) (area 16389) (area 16389)) 0x7E quiet
     -- 10: 16,387 octets with 16 bits, 16,389 with 32, and one more
     ∷ case (refusedTen (agreeing 16 16384) (replicate 1092 0xDF ++ (0xD7 ∷ [])) false)
     ∷ case (refusedTen (agreeing 16 16384) (replicate 1092 0xDF ++ (0xD8 ∷ [])) true)

@@ -9,7 +9,7 @@ use Rattle.cobs.specs.CodeBlocks.{flag, choice}
 use Rattle.link.specs.Agreed.{Settings, agreed, largestFrame, mostDecoded}
 use Rattle.link.specs.Answers.{Answer, octet, packet, held, refused}
 use Rattle.link.specs.Sender.{Lane, low, high, outAnswer, next}
-use Rattle.link.specs.Receiver.{ReceiverEnd, Receive, receive}
+use Rattle.link.specs.Receiver.{ReceiverEnd, Receive, readingOff, receive}
 use Rattle.link.specs.Runs.{SenderCall, loading, nextOctet, Station, freshStation, run, afterNext, Written, written, writtenOctets, atTrue, atFalse, receives, received, notQuiet, underWay, leftAside}
 use Rattle.link.specs.Demands.{freshReceiver, ReportAndPacket, reportAndPacket}
 
@@ -34,12 +34,12 @@ senderArea settings = replicate (largestFrame (agreed settings)) 0
 abbrev pub receiverArea : Settings → List ℕ
 receiverArea settings = replicate (mostDecoded (agreed settings)) 0
 
--- fresh ends with these areas
+-- fresh ends with these areas, plain reading off
 abbrev pub freshSender : Settings → Station
 freshSender settings = freshStation settings (senderArea settings) (senderArea settings)
 
 abbrev pub freshEnd : Settings → ReceiverEnd
-freshEnd settings = freshReceiver settings (receiverArea settings) (receiverArea settings)
+freshEnd settings = freshReceiver settings readingOff (receiverArea settings) (receiverArea settings)
 
 -- a frame is refused 10, or is not
 abbrev pub IsRefusedTen : Bool → Answer → Type 0

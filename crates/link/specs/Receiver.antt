@@ -1,4 +1,4 @@
--- The receiver's call, one for each octet (docs/READING.md; document 01, "Receiver", and for the bounds "Refusal table"; document 02, slips 4 and 8).
+-- The receiver's call, one for each octet (docs/READING.md; document 01, "Receiver", and for the bounds "Refusal table"; document 02, slips 4, 5 and 8).
 use mathlib.Core.Bool.{Bool, true, false, not, _&&_, _||_}
 use mathlib.Core.List.{List, [], _∷_, _++_}
 use Prim.Native.Nat.{ℕ, _+_, _-_}
@@ -9,12 +9,20 @@ use Rattle.fcs.specs.CheckSequence.{ones, register, good}
 use Rattle.cobs.specs.CodeBlocks.{flag, fromLine, meaning}
 use Rattle.cobs.specs.declared.Meaning.{Meaning}
 use Rattle.cobs.specs.declared.Meaning.the-variants.{InTable, NotAgreed, NoCode}
-use Rattle.link.specs.Agreed.{Settings, Agreed, agreed, validWidth, validLimit, valid, leastFrame, mostDecoded}
+use Rattle.plain.specs.declared.Taken.{Taken}
+use Rattle.plain.specs.declared.Taken.the-variants.{Removed, Escape, Data}
+use Rattle.plain.specs.Stuffing.{taken}
+pub use Rattle.plain.specs.Area.{write}
+use Rattle.link.specs.Agreed.{Settings, Agreed, agreed, validWidth, validLimit, valid, leastFrame, largestFrame, mostDecoded}
 use Rattle.link.specs.Answers.{Answer, quiet, packet, held, refused}
 pub use Rattle.link.specs.declared.receiver.Fragment.{Fragment}
 pub use Rattle.link.specs.declared.receiver.Fragment.the-variants.{NothingHeld as nothingHeld, Holds as holds}
 pub use Rattle.link.specs.declared.receiver.LastBlock.{LastBlock}
 pub use Rattle.link.specs.declared.receiver.LastBlock.the-variants.{NoBlock as noBlock, BlockD0 as blockD0, OtherBlock as otherBlock}
+pub use Rattle.link.specs.declared.receiver.Mode.{Mode}
+pub use Rattle.link.specs.declared.receiver.Mode.the-variants.{Off as keptOff, Cobs as cobs, Plain as plain, Escaped as escapeOpen}
+pub use Rattle.link.specs.declared.receiver.PlainReading.{PlainReading}
+pub use Rattle.link.specs.declared.receiver.PlainReading.the-variants.{Off as readingOff, On as readingOn}
 pub use Rattle.link.specs.declared.receiver.Receiver.{Receiver}
 pub use Rattle.link.specs.declared.receiver.Opening.{Opening}
 pub use Rattle.link.specs.declared.receiver.Opening.the-variants.{Opened as opened, Refused as refusedOpening}
@@ -34,10 +42,13 @@ pub use Rattle.link.specs.declared.receiver.Opening.the-variants.{Opened
 --   remembered refusal                                      refusal: its number, 0 for none
 --   settings octet ("Code blocks"), width (slip 1),         settings: octet, width,
 --   limit (slip 11)                                         limit
+--   plain reading off, or on and COBS, plain or plain       mode: `keptOff`, or `cobs`, `plain`,
+--   with an escape open (slip 5)                            `escapeOpen`
+--   receiving map (slip 5)                                  map
 
--- Out of a frame all is as fresh but the settings, the turn of the areas and what is held.
-abbrev pub outOfFrame : Settings → Bool → Fragment → Receiver
-outOfFrame settings turn fragment =
+-- A fresh receiver, whatever its settings, its mode and map, the turn of the areas and what it holds.
+abbrev pub fresh : Settings → Mode → ℕ → Bool → Fragment → Receiver
+fresh settings mode map turn fragment =
     record {
       turn = turn;
       decoded = 0;
@@ -49,20 +60,35 @@ outOfFrame settings turn fragment =
       resumed = false;
       refusal = 0;
       settings = settings;
+      mode = mode;
+      map = map;
     }
 
--- An end is opened fresh: the first area is the work area, and nothing is held.
-abbrev pub openedReceiver : Settings → Receiver
-openedReceiver settings = outOfFrame settings false nothingHeld
+-- At a flag an escape is over.
+abbrev pub escapeOver : Mode → Mode
+escapeOver keptOff = keptOff
+escapeOver cobs = cobs
+escapeOver plain = plain
+escapeOver escapeOpen = plain
+
+-- Out of a frame all is as fresh but the settings, the mode and the map, the turn of the areas and what is held.
+abbrev pub outOfFrame : Receiver → Bool → Fragment → Receiver
+outOfFrame r turn fragment = fresh (r .settings) (escapeOver (r .mode)) (r .map) turn fragment
+
+-- An end is opened fresh: the first area is the work area, and nothing is held. With plain reading on COBS is read first; with it off the map
+-- is empty.
+abbrev pub openedReceiver : Settings → PlainReading → Receiver
+openedReceiver settings readingOff = fresh settings keptOff 0 false nothingHeld
+openedReceiver settings (readingOn map) = fresh settings cobs map false nothingHeld
 
 -- Its opening is refused 23 of a limit out of range, and then 3 of any width but 16 or 32.
-abbrev pub openReceiver : Settings → Opening
-openReceiver settings =
+abbrev pub openReceiver : Settings → PlainReading → Opening
+openReceiver settings reading =
     if not (validLimit (agreed settings)) then refusedOpening 23
     else if not (validWidth (agreed settings)) then refusedOpening 3
-    else opened (openedReceiver settings)
+    else opened (openedReceiver settings reading)
 
--- The state with some items changed. But for these five and `outOfFrame` no definition and no proof writes a whole state out.
+-- The state with some items changed. But for these six and `fresh` no definition and no proof writes a whole state out.
 
 -- the turn of the areas
 abbrev pub withTurn : Bool → Receiver → Receiver
@@ -78,6 +104,8 @@ withTurn turn r =
       resumed = r .resumed;
       refusal = r .refusal;
       settings = r .settings;
+      mode = r .mode;
+      map = r .map;
     }
 
 -- what is held
@@ -94,6 +122,8 @@ withHeld fragment r =
       resumed = r .resumed;
       refusal = r .refusal;
       settings = r .settings;
+      mode = r .mode;
+      map = r .map;
     }
 
 -- decoded count
@@ -110,6 +140,8 @@ withDecoded n r =
       resumed = r .resumed;
       refusal = r .refusal;
       settings = r .settings;
+      mode = r .mode;
+      map = r .map;
     }
 
 -- data left and zeros due
@@ -126,6 +158,8 @@ withDue n z r =
       resumed = r .resumed;
       refusal = r .refusal;
       settings = r .settings;
+      mode = r .mode;
+      map = r .map;
     }
 
 -- in a frame, with this last block, mark resumed and remembered refusal
@@ -142,6 +176,26 @@ inFrame last resumed refusal r =
       resumed = resumed;
       refusal = refusal;
       settings = r .settings;
+      mode = r .mode;
+      map = r .map;
+    }
+
+-- the mode
+abbrev pub withMode : Mode → Receiver → Receiver
+withMode mode r =
+    record {
+      turn = r .turn;
+      decoded = r .decoded;
+      held = r .held;
+      left = r .left;
+      zeros = r .zeros;
+      last = r .last;
+      framed = r .framed;
+      resumed = r .resumed;
+      refusal = r .refusal;
+      settings = r .settings;
+      mode = mode;
+      map = r .map;
     }
 
 -- What is held is let go: from now on nothing is. So at an FF that begins a frame (slip 4), at a D1 that is accepted or refused 21 (slip 8),
@@ -171,7 +225,11 @@ abbrev pub heldOk : Agreed → ℕ → Fragment → Bool
 heldOk g refusal nothingHeld = true
 heldOk g refusal (holds n k) = not (eqb refusal 5) && leb n (mostDecoded g) && leb k (ones (g .check))
 
--- outside a frame: as in a fresh receiver, whatever its work area, its settings and what it holds
+-- data left, zeros due and last block as in a fresh receiver
+abbrev pub noBlockOpen : Receiver → Bool
+noBlockOpen r = eqb (r .left) 0 && eqb (r .zeros) 0 && isNoBlock (r .last)
+
+-- outside a frame: as in a fresh receiver, whatever its work area, its settings, its mode and map, and what it holds
 abbrev pub freshOk : Receiver → Bool
 freshOk r = eqb (r .decoded) 0 && eqb (r .left) 0 && eqb (r .zeros) 0 && isNoBlock (r .last) && not (r .resumed) && eqb (r .refusal) 0
 
@@ -185,6 +243,33 @@ lastBlockOk otherBlock r = ltb 0 (r .left) || ltb 0 (r .decoded)
 abbrev pub refusalOk : ℕ → Bool
 refusalOk n = eqb n 0 || (leb 5 n && leb n 10 || eqb n 21)
 
+-- the mode, with an escape open or not (slip 5)
+abbrev pub isOff : Mode → Bool
+isOff keptOff = true
+isOff cobs = false
+isOff plain = false
+isOff escapeOpen = false
+
+abbrev pub isPlain : Mode → Bool
+isPlain keptOff = false
+isPlain cobs = false
+isPlain plain = true
+isPlain escapeOpen = true
+
+abbrev pub isEscaped : Mode → Bool
+isEscaped keptOff = false
+isEscaped cobs = false
+isEscaped plain = false
+isEscaped escapeOpen = true
+
+-- what the mode asks (slip 5): 5 is remembered only with plain reading off; while plain is read, no block is open, in a frame or not; and an
+-- escape is open only in a frame
+abbrev pub modeOk : Receiver → Bool
+modeOk r =
+    (not (eqb (r .refusal) 5) || isOff (r .mode))
+    && (not (isPlain (r .mode)) || noBlockOpen r)
+    && (not (isEscaped (r .mode)) || r .framed)
+
 -- all of it, with 207 data octets and 2 zeros at the most, and no count above what may be decoded
 unfoldable pub inBounds : Agreed → Receiver → Bool
 inBounds g r =
@@ -193,7 +278,8 @@ inBounds g r =
     && leb (r .left) 207
     && leb (r .zeros) 2
     && refusalOk (r .refusal)
-    && (if r .framed then not (eqb (r .refusal) 0) || lastBlockOk (r .last) r else freshOk r)
+    && modeOk r
+    && (if r .framed then isPlain (r .mode) || not (eqb (r .refusal) 0) || lastBlockOk (r .last) r else freshOk r)
 
 -- ---- an octet that is no flag (steps 1 to 4)
 
@@ -212,10 +298,6 @@ step4Remember n resumed r = withDue 0 0 (inFrame noBlock resumed n r)
 -- what the steps say as "gives n"
 abbrev pub step4Refuse : ℕ → Working → Working
 step4Refuse n w = record { state = step4Remember n (w .state .resumed) (w .state); area = w .area }
-
--- octets written into an area after its first n; everything else in it stays
-abbrev pub write : List ℕ → ℕ → List ℕ → List ℕ
-write area n xs = take n area ++ xs ++ drop (n + length xs) area
 
 -- octets are written after those already decoded
 abbrev pub step3Write : List ℕ → Working → Working
@@ -250,8 +332,8 @@ step2ByMeaning g w c NoCode = step4Refuse 7 w
 unfoldable pub step2Code : Agreed → Working → ℕ → Working
 step2Code g w c = step2ByMeaning g w c (meaning (g .zxe) c)
 
--- Step 1, FF: a restart (slip 4's word), as a peer that begins anew, in plain PPP, sends it. What is held is let go at once, and the frame
--- is refused 5.
+-- Step 1, FF: a restart (slip 4's word), as a peer that begins anew, in plain PPP, sends it. What is held is let go at once, and, with plain
+-- reading off, the frame is refused 5.
 abbrev pub step1Restart : Receiver → Receiver
 step1Restart r = step4Remember 5 (r .resumed) (letGo r)
 
@@ -292,7 +374,7 @@ pub record Ended : Type 0 where
 
 -- the frame is over
 abbrev pub frameOver : Receiver → Receiver
-frameOver r = outOfFrame (r .settings) (r .turn) (r .held)
+frameOver r = outOfFrame r (r .turn) (r .held)
 
 -- A frame that is delivered or refused: if it is a resumed one, what is held is let go.
 abbrev pub step5End : Answer → Receiver → Ended
@@ -308,14 +390,14 @@ abbrev pub step5Hold : Agreed → Receiver → List ℕ → Ended
 step5Hold g r area =
     record {
       report = held (r .decoded) (not (r .resumed) && isHeld (r .held));
-      state = outOfFrame (r .settings) (not (r .turn)) (holds (r .decoded) (register (g .check) (take (r .decoded) area)));
+      state = outOfFrame r (not (r .turn)) (holds (r .decoded) (register (g .check) (take (r .decoded) area)));
     }
 
 -- inside a block: Held where PRE is on, else refused 11
 abbrev pub step5InBlock : Agreed → Receiver → List ℕ → Ended
 step5InBlock g r area = if g .pre then step5Hold g r area else step5End (refused 11) r
 
--- Without the phantom n octets are left. Too few for a frame (under 4 with 16 bits) are refused 13, and those with a register that is not good
+-- Without the phantom (of which plain PPP has none) n octets are left. Too few for a frame (under 4 with 16 bits) are refused 13, and those with a register that is not good
 -- 14; else they are a packet and its FCS.
 unfoldable pub step5WithoutPhantom : Agreed → Receiver → List ℕ → ℕ → Ended
 step5WithoutPhantom g r area n =
@@ -336,6 +418,50 @@ step5Flag g r area =
 -- The flag of a frame reports; where there is no frame, it is Quiet.
 unfoldable pub atFlag : Agreed → Receiver → List ℕ → Ended
 atFlag g r area = if r .framed then step5Flag g r area else record { report = quiet; state = r }
+
+-- ---- plain PPP (slip 5; RFC 1662, section 4)
+
+-- The frame goes on, in this mode.
+abbrev pub inPlainFrame : Mode → Receiver → Receiver
+inPlainFrame mode r = inFrame noBlock (r .resumed) 0 (withMode mode r)
+
+-- An octet of the frame. There is no phantom, so that one more than the largest frame has is refused 10 already, and not written.
+unfoldable pub plainData : Agreed → ℕ → Working → Working
+plainData g y w =
+    let v : Working = record { state = inPlainFrame plain (w .state); area = w .area } in
+    if ltb (largestFrame g) (w .state .decoded + 1) then step4Refuse 10 v else step3Write (y ∷ []) v
+
+-- by what an octet says: a removed one changes nothing, not even whether a frame has begun
+unfoldable pub plainTaken : Agreed → Working → Taken → Working
+plainTaken g w Removed = w
+plainTaken g w Escape = record { state = inPlainFrame escapeOpen (w .state); area = w .area }
+plainTaken g w (Data y) = plainData g y w
+
+-- An octet that is no flag. With a refusal remembered it is skipped.
+unfoldable pub plainOctet : Agreed → Working → ℕ → Working
+plainOctet g w x =
+    if not (eqb (w .state .refusal) 0) then w
+    else plainTaken g w (taken (w .state .map) (isEscaped (w .state .mode)) x)
+
+-- The flag of a frame: what is remembered; more octets than the largest frame has (a state that is handed in may have one); an escape that is
+-- open; then as in COBS, by length and register.
+unfoldable pub plainFlag : Agreed → Receiver → List ℕ → Ended
+plainFlag g r area =
+    if not (eqb (r .refusal) 0) then step5End (refused (r .refusal)) r
+    else if ltb (largestFrame g) (r .decoded) then step5End (refused 10) r
+    else if isEscaped (r .mode) then step5End (refused 18) r
+    else step5WithoutPhantom g r area (r .decoded)
+
+unfoldable pub atPlainFlag : Agreed → Receiver → List ℕ → Ended
+atPlainFlag g r area = if r .framed then plainFlag g r area else record { report = quiet; state = r }
+
+-- Plain reading begins: with the reading on, at an FF that would begin a COBS frame. What is held is let go (slip 4), and the FF is the plain
+-- frame's first octet.
+abbrev pub beginsPlain : Receiver → ℕ → Bool
+beginsPlain r x = not (isOff (r .mode)) && not (r .framed) && eqb x 0xFF
+
+unfoldable pub beginPlain : Agreed → Working → Working
+beginPlain g w = plainData g 0xFF (record { state = letGo (w .state); area = w .area })
 
 -- ---- the call
 
@@ -374,13 +500,29 @@ pub record Receive : Type 0 where
 abbrev pub flagged : ReceiverEnd → Ended → Receive
 flagged e t = record { report = t .report; after = record { state = t .state; first = e .first; second = e .second } }
 
--- The receiver's call: refusals 3 (of the width or the limit), 2 and 3, in this order, or a flag, or an octet of a frame, where 00 is turned
--- into 7E first.
+-- an octet that is no flag is Quiet
+abbrev pub quietly : ReceiverEnd → Working → Receive
+quietly e w = record { report = quiet; after = putBack e w }
+
+-- in COBS: a flag, or an octet of a frame, where 00 is turned into 7E first
+abbrev pub receiveCobs : Agreed → ReceiverEnd → ℕ → Receive
+receiveCobs g e x =
+    if eqb x flag then flagged e (atFlag g (e .state) (work e .area))
+    else quietly e (steps1To4 g (aside e) (work e) (fromLine x))
+
+-- in plain PPP (slip 5)
+abbrev pub receivePlain : Agreed → ReceiverEnd → ℕ → Receive
+receivePlain g e x =
+    if eqb x flag then flagged e (atPlainFlag g (e .state) (work e .area))
+    else quietly e (plainOctet g (work e) x)
+
+-- The receiver's call: refusals 3 (of the width or the limit), 2 and 3, in this order; else in plain PPP, or in COBS, or plain reading begins.
 unfoldable pub receive : ReceiverEnd → ℕ → Receive
 receive e x =
     let g = agreed (e .state .settings) in
     if not (valid g) then record { report = refused 3; after = e }
     else if ltb (length (e .first)) (mostDecoded g) || ltb (length (e .second)) (mostDecoded g) then record { report = refused 2; after = e }
     else if not (inBounds g (e .state)) then record { report = refused 3; after = e }
-    else if eqb x flag then flagged e (atFlag g (e .state) (work e .area))
-    else record { report = quiet; after = putBack e (steps1To4 g (aside e) (work e) (fromLine x)) }
+    else if isPlain (e .state .mode) then receivePlain g e x
+    else if beginsPlain (e .state) x then quietly e (beginPlain g (work e))
+    else receiveCobs g e x

@@ -5,11 +5,13 @@ ghost use Prim.Native.Nat.{min, _+_, _≤_};
 ghost use lib.ListN.{length, drop};
 ghost use Rattle.cobs.specs.CodeBlocks.{fromLine};
 ghost use Rattle.link.specs.Answers.{reportAnswer, isQuiet};
-ghost use Rattle.link.specs.Receiver.{write};
+ghost use mathlib.Core.Bool.{not, _&&_};
+ghost use Rattle.link.specs.Receiver.{isPlain, isEscaped, write};
 ghost use Rattle.link.specs.ReceiverParts.{ReceiverReady};
-ghost use Rattle.reader.specs.Stretches.{beforeFlag, withCounts};
+ghost use Rattle.reader.specs.Stretches.{isSpecial, beforeFlag, beforeSpecial, withCounts};
 ghost use Rattle.reader.specs.Reading.{usedBefore, readOn};
 ghost use Rattle.reader.specs.NothingLost.{AsTheCalls, FirstThenRest, StretchesJoin, AllReported};
+use link::receiver::Mode;
 use link::receiver::Receiver;
 use link::receiver::Report;
 
@@ -45,6 +47,39 @@ fn before_flag(octets: &[u8]) -> usize
     i
 }
 
+// In plain PPP, an octet that is not copied as it is: flag, escape, or one that the map removes.
+fn special(map: u32, octet: u8) -> bool
+    ensures { λ r. ⌜ r ≡ isSpecial map octet ⌝ }
+{
+    (octet == cobs::FLAG) | (octet == plain::ESCAPE) | plain::removed(map, octet)
+}
+
+// How many octets stand before the first of them.
+fn before_special(octets: &[u8], map: u32) -> usize
+    ensures { λ r. ⌜ r ≡ beforeSpecial map (now (octets .entry)) ⌝ }
+{
+    let mut i = 0;
+    while i < octets.len() {
+        if special(map, octets[i]) {
+            return i;
+        }
+        i += 1;
+    }
+    i
+}
+
+// Octets written into an area, from a place on.
+fn copy(octets: &[u8], area: &mut [u8], at: usize)
+    requires { ⌜ at + length (now octets) ≤ length (now area) ⌝ }
+    ensures { λ r. ⌜ now (area .exit) ≡ write (now (area .entry)) at (now (octets .entry)) ⌝ }
+{
+    let mut i = 0;
+    while i < octets.len() {
+        area[at + i] = octets[i];
+        i += 1;
+    }
+}
+
 // Data octets, turned back and written into an area, from a place on.
 fn copy_data(octets: &[u8], area: &mut [u8], at: usize)
     requires { ⌜ at + length (now octets) ≤ length (now area) ⌝ }
@@ -64,8 +99,71 @@ struct Passed {
     used: usize,
 }
 
+// No octet is used.
+fn none_passed(state: Receiver) -> Passed
+    ensures { λ r. ⌜ r ≡ record { decoded = state .decoded; left = state .left; used = 0 } ⌝ }
+{
+    Passed {
+        decoded: state.decoded,
+        left: state.left,
+        used: 0,
+    }
+}
+
+// Plain PPP is read, and no escape is open.
+fn reads_plain(mode: Mode) -> bool
+    ensures { λ r. ⌜ r ≡ (isPlain mode && not (isEscaped mode)) ⌝ }
+{
+    match mode {
+        Mode::Off => false,
+        Mode::Cobs => false,
+        Mode::Plain => true,
+        Mode::Escaped => false,
+    }
+}
+
+// The calls for the next octets at once, in a plain frame: those before the first that is not copied as it is, as far as the largest frame
+// has room.
+fn plain_stretch(state: Receiver, octets: &[u8], first: &mut [u8], second: &mut [u8]) -> Passed
+    requires { ⌜ ReceiverReady (record { state = state; first = now first; second = now second }) ⌝ }
+    requires { ⌜ state .refusal ≡ 0 ⌝ }
+    ensures { λ r. ⌜ readOn (record { state = state; first = now (first .entry); second = now (second .entry) }) (now (octets .entry))
+        ≡ usedBefore (r .used)
+        (readOn
+        (record { state = withCounts (r .decoded) (r .left) state; first = now (first .exit); second = now (second .exit) })
+        (drop (r .used) (now (octets .entry)))) ⌝ }
+    ensures { λ r. ⌜ r .used ≤ length (now (octets .entry)) ⌝ }
+{
+    let mode = state.mode;
+    let at = state.decoded as usize;
+    let largest = state.settings.largest_frame();
+    if !reads_plain(mode) {
+        return none_passed(state);
+    }
+    if !state.framed {
+        return none_passed(state);
+    }
+    if largest <= at {
+        return none_passed(state);
+    }
+    let most = cobs::lesser(largest - at, octets.len());
+    let used = before_special(&octets[0..most], state.map);
+    let decoded = (at + used) as u16;
+    let data = &octets[0..used];
+    if state.turn {
+        copy(data, second, at);
+    } else {
+        copy(data, first, at);
+    }
+    Passed {
+        decoded,
+        left: state.left,
+        used,
+    }
+}
+
 // The calls for the next octets at once, as far as they are known to be Quiet: in a refused frame those before the flag, in a block the data
-// octets before a flag and before the block's last, with which its zeros are decoded.
+// octets before a flag and before the block's last, with which its zeros are decoded, and in a plain frame as above.
 fn stretch(state: Receiver, octets: &[u8], first: &mut [u8], second: &mut [u8]) -> Passed
     requires { ⌜ ReceiverReady (record { state = state; first = now first; second = now second }) ⌝ }
     ensures { λ r. ⌜ readOn (record { state = state; first = now (first .entry); second = now (second .entry) }) (now (octets .entry))
@@ -85,11 +183,7 @@ fn stretch(state: Receiver, octets: &[u8], first: &mut [u8], second: &mut [u8]) 
     }
     let ahead = state.left as usize;
     if ahead <= 1 {
-        return Passed {
-            decoded: state.decoded,
-            left: state.left,
-            used: 0,
-        };
+        return plain_stretch(state, octets, first, second);
     }
     let at = state.decoded as usize;
     let most = cobs::lesser(

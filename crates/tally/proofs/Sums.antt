@@ -6,7 +6,7 @@ use mathlib.Core.Path.{_≡_, refl, sym, _∙_}
 use Prim.Native.Nat.{ℕ, zero, suc, _+_, _-_, _≤_, _<_, min}
 use native.Mathlib.Nat.{le-of-suc-le-suc}
 use native.Mathlib.Omega.{arith}
-use borrow.Author.Tests.{ltb-true, ltb-false, leb-true, leb-false, eqb-true, le-leb, lt-leb, lt-ltb, eq-eqb, ne-eqb}
+use borrow.Author.Tests.{eqb-false, ltb-true, ltb-false, leb-true, leb-false, eqb-true, le-leb, lt-leb, lt-ltb, eq-eqb, ne-eqb}
 use lib.Dec.{leb, ltb, eqb}
 use lib.ListN.{length, getD, set, length-set, getD-replicate}
 use lib.Seq.{getD-set-same, getD-set-other}
@@ -28,14 +28,16 @@ at-place p h quiet e = false-true e
 at-place p h (packet second n) e = sym (eqb-true p 0 e)
 at-place p h (held n replaced) e = sym (eqb-true p (if replaced then 2 else 1) e)
 at-place p h (refused n) e =
-    or-cases (leb 3 p && leb p 12 && eqb n (p + 2)) (eqb p 13 && eqb n 21) e
+    or-cases (leb 3 p && leb p 12 && eqb n (p + 2) || eqb p 13 && eqb n 18) (eqb p 14 && eqb n 21) e
+    (λ i. or-cases (leb 3 p && leb p 12 && eqb n (p + 2)) (eqb p 13 && eqb n 18) i
     (λ k.
     let both = and-left (leb 3 p && leb p 12) (eqb n (p + 2)) k in
     let l = leb-true 3 p (and-left (leb 3 p) (leb p 12) both) in
     let m = leb-true p 12 (and-right (leb 3 p) (leb p 12) both) in
     let is = eqb-true n (p + 2) (and-right (leb 3 p && leb p 12) (eqb n (p + 2)) k) in
     rw (le-leb 5 n (omega arith), le-leb n 14 (omega arith)) (omega arith))
-    (λ k. rw (eqb-true p 13 (and-left (eqb p 13) (eqb n 21) k), eqb-true n 21 (and-right (eqb p 13) (eqb n 21) k)))
+    (λ k. rw (eqb-true p 13 (and-left (eqb p 13) (eqb n 18) k), eqb-true n 18 (and-right (eqb p 13) (eqb n 18) k))))
+    (λ k. rw (eqb-true p 14 (and-left (eqb p 14) (eqb n 21) k), eqb-true n 21 (and-right (eqb p 14) (eqb n 21) k)))
 
 pub only-there : (p : ℕ) → p < places → (r : Answer) → place r ≡ p → ofKind p r ≡ true
 unfolding place
@@ -51,7 +53,8 @@ only-there p h (refused n) e =
     let l = leb-true 5 n (and-left (leb 5 n) (leb n 14) t) in
     let u = leb-true n 14 (and-right (leb 5 n) (leb n 14) t) in
     rw (le-leb 3 p (omega arith), le-leb p 12 (omega arith), eq-eqb n (p + 2) (omega arith)))
-    (λ _. branch (λ q. q ≡ p → ofKind p (refused n) ≡ true) (eqb n 21) (λ t q. rw (sym q) t) (λ _ q. absurd (omega arith)))
+    (λ _. branch (λ q. q ≡ p → ofKind p (refused n) ≡ true) (eqb n 18) (λ t q. rw (sym q) (rw t))
+    (λ _. branch (λ q. q ≡ p → ofKind p (refused n) ≡ true) (eqb n 21) (λ t q. rw (sym q) t) (λ _ q. absurd (omega arith))))
     e
 
 pub has-place : (r : Answer) → isCounted r ≡ ltb (place r) places
@@ -66,7 +69,8 @@ has-place (held n false) = refl
 has-place (refused n) =
     branch (λ q. ofFrame n ≡ ltb q places) (leb 5 n && leb n 14)
     (λ t. let u = leb-true n 14 (and-right (leb 5 n) (leb n 14) t) in rw (t, lt-ltb (3 + (n - 5)) places (omega arith)))
-    (λ t. branch (λ q. ofFrame n ≡ ltb q places) (eqb n 21) (λ u. rw (t, u)) (λ u. rw (t, u)))
+    (λ t. branch (λ q. ofFrame n ≡ ltb q places) (eqb n 18) (λ u. rw (t, u))
+    (λ u. branch (λ q. ofFrame n ≡ ltb q places) (eqb n 21) (λ v. rw (t, u, v)) (λ v. rw (t, u, v))))
 
 or-false : (b : Bool) → (b || false) ≡ b
 or-false true = refl
@@ -75,14 +79,14 @@ or-false false = refl
 pub named-rightly : NamedRightly
 named-rightly p n l h =
     decide (leb p 12)
-    (λ k. let m = leb-true p 12 k in rw (le-leb 3 p l, k, ne-eqb p 13 (λ q. omega arith)) (or-false (eqb n (p + 2))))
-    (λ k. let last : p ≡ 13 = omega (arith, leb-false p 12 k) in rw last)
+    (λ k. let m = leb-true p 12 k in rw (le-leb 3 p l, k, ne-eqb p 13 (λ q. omega arith), ne-eqb p 14 (λ q. omega arith)) (or-false (eqb n (p + 2) || false) ∙ or-false (eqb n (p + 2))))
+    (λ k. decide (eqb p 13) (λ i. rw (eqb-true p 13 i) (or-false (eqb n 18))) (λ i. let last : p ≡ 14 = omega (arith, leb-false p 12 k, eqb-false p 13 i) in rw last))
 
-pub of-frame : (n : ℕ) → 5 ≤ n → (n ≤ 14) ⊎ (n ≡ 21) → ofFrame n ≡ true
-of-frame n low = ⊎-elim (λ high. rw (le-leb 5 n low, le-leb n 14 high)) (λ is. rw is)
+pub of-frame : (n : ℕ) → 5 ≤ n → (n ≤ 14) ⊎ (n ≡ 18) ⊎ (n ≡ 21) → ofFrame n ≡ true
+of-frame n low = ⊎-elim (λ high. rw (le-leb 5 n low, le-leb n 14 high)) (⊎-elim (λ is. rw is) (λ is. rw is))
 
 pub not-of-frame : (n : ℕ) → n < 5 → ofFrame n ≡ false
-not-of-frame n low = rw (lt-leb 5 n low) (ne-eqb n 21 (λ q. omega arith))
+not-of-frame n low = rw (lt-leb 5 n low, ne-eqb n 18 (λ q. omega arith), ne-eqb n 21 (λ q. omega arith))
 
 pub frames-counted : FramesCounted
 frames-counted = record { frames = of-frame; calls = not-of-frame }
@@ -113,7 +117,7 @@ module _ (t : Tally) (fits : Fits t) (r : Answer) where
   count-note : (p : ℕ) → p < places → countAt (note t r) p ≡ min largestCount (countAt t p + (if ofKind p r then 1 else 0))
   unfolding note
   count-note p h =
-      let l = fits .fourteen in
+      let l = fits .fifteen in
       let m = fits .small p h in
       branch (λ x. countAt (note t r) p ≡ min largestCount (countAt t p + x)) (ofKind p r)
       (λ e. rw (at-place p h r e, lt-ltb p places h) (getD-set-same (t .counts) p (raised (countAt t p)) 0 (omega arith) ∙ raised-is (countAt t p) m))
@@ -125,7 +129,7 @@ module _ (t : Tally) (fits : Fits t) (r : Answer) where
   unfolding note
   fits-note =
       record {
-        fourteen = branch (λ (u : Tally). length (u .counts) ≡ places) (ltb (place r) places) (λ _. simp length-set (fits .fourteen)) (λ _. fits .fourteen);
+        fifteen = branch (λ (u : Tally). length (u .counts) ≡ places) (ltb (place r) places) (λ _. simp length-set (fits .fifteen)) (λ _. fits .fifteen);
         small = λ p h. omega (arith, count-note p h);
       }
 
@@ -135,7 +139,7 @@ module _ (t : Tally) (fits : Fits t) (r : Answer) where
   total-note low =
       decide (ltb (place r) places)
       (λ e. let h = ltb-true (place r) places e in
-      let l = fits .fourteen in
+      let l = fits .fifteen in
       simp (has-place r, e, lt-ltb _ _ (low h)) (sum-set (t .counts) (place r) (omega arith)))
       (λ e. simp (has-place r, e) (omega arith))
 
@@ -160,7 +164,7 @@ none-yet : (p : ℕ) → p < places → countAt emptyTally p ≡ 0
 none-yet p h = getD-replicate places p 0 0 h
 
 fits-empty : Fits emptyTally
-fits-empty = record { fourteen = refl; small = λ p h. omega (arith, none-yet p h) }
+fits-empty = record { fifteen = refl; small = λ p h. omega (arith, none-yet p h) }
 
 pub from-empty : FromEmpty
 unfolding sum

@@ -24,7 +24,7 @@ abbrev pub numberOf : (Answer → Bool) → List Answer → ℕ
 numberOf test [] = 0
 numberOf test (r ∷ rs) = (if test r then 1 else 0) + numberOf test rs
 
--- The reports that raise a count: all but Quiet and the refusals of calls, any number but 5 to 14 and 21.
+-- The reports that raise a count: all but Quiet and the refusals of calls, any number but 5 to 14, 18 and 21.
 abbrev pub isCounted : Answer → Bool
 isCounted done = false
 isCounted (octet x) = false
@@ -35,7 +35,7 @@ isCounted (held n replaced) = true
 isCounted (refused n) = ofFrame n
 
 -- Whether a report is of the kind that is counted at place p: packets at 0, held with nothing replaced at 1, held with replacement at 2,
--- refusals 5 to 14 at 3 to 12, and 21 at 13.
+-- refusals 5 to 14 at 3 to 12, 18 at 13 and 21 at 14.
 abbrev pub ofKind : ℕ → Answer → Bool
 ofKind p done = false
 ofKind p (octet x) = false
@@ -43,20 +43,20 @@ ofKind p idle = false
 ofKind p quiet = false
 ofKind p (packet inSecond n) = eqb p 0
 ofKind p (held n replaced) = eqb p (if replaced then 2 else 1)
-ofKind p (refused n) = leb 3 p && leb p 12 && eqb n (p + 2) || eqb p 13 && eqb n 21
+ofKind p (refused n) = leb 3 p && leb p 12 && eqb n (p + 2) || eqb p 13 && eqb n 18 || eqb p 14 && eqb n 21
 
 -- So every refusal of a frame is counted, and none of a call.
 pub record FramesCounted : Type 0 where
-  pub frames : (n : ℕ) → 5 ≤ n → (n ≤ 14) ⊎ (n ≡ 21) → isCounted (refused n) ≡ true
+  pub frames : (n : ℕ) → 5 ≤ n → (n ≤ 14) ⊎ (n ≡ 18) ⊎ (n ≡ 21) → isCounted (refused n) ≡ true
   pub calls : (n : ℕ) → n < 5 → isCounted (refused n) ≡ false
 
 -- The refusal that a place is named by is the one that is counted there.
 abbrev pub NamedRightly : Type 0
 NamedRightly = (p n : ℕ) → 3 ≤ p → p < places → ofKind p (refused n) ≡ eqb n (refusalAt p)
 
--- a tally that the code can hold: fourteen counts, of 64 bits
+-- a tally that the code can hold: fifteen counts, of 64 bits
 pub record Fits (t : Tally) : Type 0 where
-  pub fourteen : length (t .counts) ≡ places
+  pub fifteen : length (t .counts) ≡ places
   pub small : (p : ℕ) → p < places → countAt t p ≤ largestCount
 
 -- The largest count is the largest number of 64 bits.

@@ -1,4 +1,4 @@
-// The display of a reported packet, and the tally of reports (document 01, "Display, tally, capture program"; document 02, slip 8).
+// The display of a reported packet, and the tally of reports (document 01, "Display, tally, capture program"; document 02, slips 5 and 8).
 ghost use mathlib.Core.Path.{_≡_};
 ghost use Rattle.link.specs.Answers.{refused, reportAnswer};
 ghost use Rattle.tally.specs.Display.{front, shown, ShowsThePacket, WithinTheArea, BeyondTheArea};
@@ -34,7 +34,8 @@ fn front(n: u16, area: &[u8]) -> &[u8]
 
 // ---- tally
 
-// The places of the counts: packets, held with nothing replaced, held with replacement, from REFUSALS on refusals 5 to 14 in order, and 21.
+// The places of the counts: packets, held with nothing replaced, held with replacement, from REFUSALS on refusals 5 to 14 in order, 18 and
+// 21.
 const PACKETS: usize = 0;
 
 const HELD: usize = 1;
@@ -43,15 +44,20 @@ const HELD_REPLACING: usize = 2;
 
 const REFUSALS: usize = 3;
 
-const CHANGED_PLACE: usize = 13;
+const ESCAPE_OPEN_PLACE: usize = 13;
+
+const CHANGED_PLACE: usize = 14;
 
 // How many counts there are. As a place it means that a report has no count.
-pub const COUNTS: usize = 14;
+pub const COUNTS: usize = 15;
 
 // The refusals that are counted, those of frames: 5 to 14,
 const FIRST_REFUSAL: u8 = 5;
 
 const LAST_REFUSAL: u8 = 14;
+
+// 18, of a flag behind an open escape,
+const ESCAPE_OPEN: u8 = 18;
 
 // and 21, of what was held and is changed.
 const CHANGED: u8 = 21;
@@ -97,6 +103,9 @@ fn refusal_place(n: u8) -> usize
     if n <= LAST_REFUSAL {
         return REFUSALS + (n - FIRST_REFUSAL) as usize;
     }
+    if n == ESCAPE_OPEN {
+        return ESCAPE_OPEN_PLACE;
+    }
     if n == CHANGED {
         return CHANGED_PLACE;
     }
@@ -107,7 +116,7 @@ fn refusal_place(n: u8) -> usize
 pub fn of_frame(n: u8) -> bool
     ensures { λ r. ⌜ r ≡ ofFrame n ⌝ }
 {
-    (FIRST_REFUSAL <= n) & (n <= LAST_REFUSAL) | (n == CHANGED)
+    (FIRST_REFUSAL <= n) & (n <= LAST_REFUSAL) | (n == ESCAPE_OPEN) | (n == CHANGED)
 }
 
 // The refusal that is counted at a place; 0 where none is.
@@ -117,8 +126,11 @@ pub fn refusal_at(place: usize) -> u8
     if place < REFUSALS {
         return 0;
     }
-    if place < CHANGED_PLACE {
+    if place < ESCAPE_OPEN_PLACE {
         return (place - REFUSALS) as u8 + FIRST_REFUSAL;
+    }
+    if place == ESCAPE_OPEN_PLACE {
+        return ESCAPE_OPEN;
     }
     if place == CHANGED_PLACE {
         return CHANGED;

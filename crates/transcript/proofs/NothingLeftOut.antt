@@ -41,7 +41,7 @@ fits s v (packet second n) e w =
     let m : n < 65536 = omega (arith, w .1, limit-at-most (agreed s) v) in
     omega (arith, w .1, report-most (packet second n) (shownOf (packet second n) (e .first) (e .second)) m, front-most n (areaOf second e))
 fits s v (held n replaced) e w = omega (arith, report-most (held n replaced) [] (omega (arith, w, decoded-at-most s v)))
-fits s v (refused n) e w = omega (arith, report-most (refused n) [] (⊎-elim (λ l. omega arith) (λ q. omega arith) (w .1)))
+fits s v (refused n) e w = omega (arith, report-most (refused n) [] (⊎-elim (λ l. omega arith) (⊎-elim (λ q. omega arith) (λ q. omega arith)) (w .1)))
 fits s v quiet e w = omega (arith, report-most quiet [] (omega arith))
 fits s v done e w = omega (arith, report-most done [] (omega arith))
 fits s v (octet x) e w = omega (arith, report-most (octet x) [] (omega arith))

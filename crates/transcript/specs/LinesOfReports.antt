@@ -17,12 +17,12 @@ use Rattle.transcript.specs.Transcript.{lineOf}
 -- The line of a call.
 --   ofPacket: where its report stands for the packet p, in the sense of the demands, P, the length of p, and the octets of p
 --   ofHeld: H, the count, and whether an older fragment was replaced
---   ofRefusal: R and the number, which is one of a frame, 5 to 14 or 21
+--   ofRefusal: R and the number, which is one of a frame, 5 to 14, 18 or 21
 --   ofQuiet: none
 pub record LineOfCall (h : Receive) : Type 0 where
   pub ofPacket : (p : List ℕ) → packetIn h ≡ some p → lineOf h ≡ packetLine (length p) p
   pub ofHeld : (n : ℕ) (replaced : Bool) → h .report ≡ held n replaced → lineOf h ≡ heldLine n replaced
-  pub ofRefusal : (n : ℕ) → h .report ≡ refused n → 5 ≤ n → (n ≤ 14) ⊎ (n ≡ 21) → lineOf h ≡ refusedLine n
+  pub ofRefusal : (n : ℕ) → h .report ≡ refused n → 5 ≤ n → (n ≤ 14) ⊎ (n ≡ 18) ⊎ (n ≡ 21) → lineOf h ≡ refusedLine n
   pub ofQuiet : h .report ≡ quiet → lineOf h ≡ []
 
 -- of every receiver, with any areas, and every octet

@@ -24,7 +24,8 @@ shownOf done first second = []
 shownOf (octet x) first second = []
 shownOf idle first second = []
 
--- The line of an answer, from the areas. What is not counted has none: Quiet, and a refusal of the call itself (any number but 5 to 14 and 21).
+-- The line of an answer, from the areas. What is not counted has none: Quiet, and a refusal of the call itself (any number but 5 to 14, 18
+-- and 21).
 abbrev pub lineFor : Answer → List ℕ → List ℕ → List ℕ
 lineFor a first second = if isCounted a then reportLine a (shownOf a first second) else []
 

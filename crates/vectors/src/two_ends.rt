@@ -12,6 +12,7 @@ use crate::answers::push_three;
 use crate::rows;
 use crate::rows::Row;
 use link::Settings;
+use link::receiver::PlainReading;
 use link::receiver::Receiver;
 use link::receiver::Report;
 use link::sender::Lane;
@@ -233,7 +234,7 @@ fn lent(row: Row) -> usize {
 
 // A fresh receiver takes the octets.
 pub(crate) fn received(row: Row, line: &[u8]) -> Answers {
-    let opening = link::receiver::open(settings(row));
+    let opening = link::receiver::open(settings(row), PlainReading::Off);
     match opening {
         link::receiver::Opening::Opened(state) => received_by(state, row, line),
         link::receiver::Opening::Refused(n) => refused(none(), n),

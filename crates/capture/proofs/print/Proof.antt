@@ -9,6 +9,7 @@ use mathlib.Core.Path.{_≡_, refl, ap}
 use native.Mathlib.Omega.{arith}
 use Rattle.link.specs.declared.Settings.{Settings}
 use Rattle.link.specs.declared.receiver.Opening.{Opening}
+use Rattle.link.specs.declared.receiver.PlainReading.the-variants.{On}
 use Rattle.link.specs.declared.receiver.Opening.the-variants.{Opened, Refused}
 use Rattle.link.specs.Receiver.{openedReceiver}
 use Rattle.link.proofs.Agreed.{limit-is}
@@ -25,7 +26,7 @@ settingsOf s (Opened r) = r .settings
 settingsOf s (Refused n) = s
 
 -- an end that is opened with them has room
-room : (s : Settings) (o : Opening) → s .limit ≡ 2048 → o ≡ Opened (openedReceiver s) → longestLine (settingsOf s o) ≤ 65536
+room : (s : Settings) (o : Opening) → s .limit ≡ 2048 → o ≡ Opened (openedReceiver s (On 0)) → longestLine (settingsOf s o) ≤ 65536
 room s o l e = omega (arith, ap (λ (p : Opening). longestLine (settingsOf s p)) e, limit-is s, l)
 
 loop-holds : tie.Need-loop-holds Inv-loop μ-loop

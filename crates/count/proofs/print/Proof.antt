@@ -7,10 +7,10 @@ use lib.ListN.{length}
 use mathlib.Core.Path.{_≡_}
 
 abbrev Inv-loop : tie.InvT-loop
-Inv-loop counts page₀ filled₀ place₀ page filled place = (place ≤ 14) × (length page ≡ 4096)
+Inv-loop counts page₀ filled₀ place₀ page filled place = (place ≤ 15) × (length page ≡ 4096)
 
 abbrev μ-loop : tie.MeasureT-loop
-μ-loop counts page₀ filled₀ place₀ page filled place = 14 - place
+μ-loop counts page₀ filled₀ place₀ page filled place = 15 - place
 
 loop-holds : tie.Need-loop-holds Inv-loop μ-loop
 loop-holds c = search needs

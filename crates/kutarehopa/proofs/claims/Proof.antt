@@ -1,5 +1,5 @@
 -- `kutarehopa::claims`.
-use Rattle.kutarehopa.proofs.Numbers.{numbers-come-apart, reports-have-numbers}
+use Rattle.kutarehopa.proofs.Numbers.{numbers-come-apart, reports-have-numbers, sends-have-numbers}
 use Rattle.kutarehopa.proofs.Spelling.{packed-spells-itself, packed-again, looks-nowhere-else}
 use Rattle.kutarehopa.proofs.AsTheCalls.{opened-is-packed, on-packed-states, runs-as-link, as-packed-again, no-call-made, refused-leaves-all, no-octet-no-change, no-state-is-out-of-bounds, rest-stays}
 use Rattle.kutarehopa.proofs.Marked.{marked-octets, marked-numbers}
@@ -8,7 +8,7 @@ use Rattle.kutarehopa.proofs.claims.Tie as tie
 
 returns : tie.Need-returns
 returns c = (
-  (numbers-come-apart, reports-have-numbers),
+  (numbers-come-apart, reports-have-numbers, sends-have-numbers),
   (
     (packed-spells-itself, packed-again, looks-nowhere-else),
     (

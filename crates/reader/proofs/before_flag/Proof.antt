@@ -3,9 +3,10 @@ use mathlib.Core.Path.{_≡_}
 use Prim.Native.Nat.{_+_, _-_, _≤_}
 use native.Mathlib.Nat.{zero-add}
 use native.Mathlib.Omega.{arith}
+use borrow.Author.Tests.{eq-eqb, ne-eqb}
 use lib.ListN.{length, drop}
-use Rattle.reader.specs.Stretches.{beforeFlag}
-use Rattle.reader.proofs.Quiet.{one-more, at-flag, at-end}
+use Rattle.reader.specs.Stretches.{isFlag, beforeFlag}
+use Rattle.reader.proofs.Quiet.{one-more, at-first, at-end}
 use Rattle.reader.proofs.before_flag.Statement.{statement}
 use Rattle.reader.proofs.before_flag.Tie as tie
 
@@ -24,7 +25,7 @@ shared-slice-read-if1 c = omega arith
 returns : tie.Need-returns Inv-loop μ-loop
 returns c =
     let l = c .before .before .before in
-    omega (arith, l .loop .inv .1, at-flag (l .before .args .octets .now) (l .loop .i) (c .before .before .loop-test .taken) (c .if1 .taken))
+    omega (arith, l .loop .inv .1, at-first isFlag (l .before .args .octets .now) (l .loop .i) (c .before .before .loop-test .taken) (eq-eqb _ _ (c .if1 .taken)))
 
 add-i : tie.Need-add-i Inv-loop μ-loop
 add-i c = omega arith
@@ -36,13 +37,13 @@ loop-again : tie.Need-loop-again Inv-loop μ-loop
 loop-again c =
     let l = c .before .before .before in (
       omega arith,
-      omega (arith, l .loop .inv .1, one-more (l .before .args .octets .now) (l .loop .i) (c .before .before .loop-test .taken) (c .if1 .left)),
+      omega (arith, l .loop .inv .1, one-more isFlag (l .before .args .octets .now) (l .loop .i) (c .before .before .loop-test .taken) (ne-eqb _ _ (c .if1 .left))),
     )
 
 returns-2 : tie.Need-returns-2 Inv-loop μ-loop
 returns-2 c =
     let l = c .before in
-    omega (arith, l .loop .inv .1, at-end (l .before .args .octets .now) (l .loop .i) (c .loop-test .left))
+    omega (arith, l .loop .inv .1, at-end isFlag (l .before .args .octets .now) (l .loop .i) (c .loop-test .left))
 
 pub before-flag-spec : {M : Type 1} → statement M
 before-flag-spec = tie.close (tie.spec Inv-loop μ-loop loop-holds shared-slice-read-if1 returns add-i loop-less loop-again returns-2)

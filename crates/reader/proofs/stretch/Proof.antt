@@ -9,8 +9,7 @@ use Rattle.link.specs.Agreed.{agreed, mostDecoded}
 use Rattle.link.specs.Receiver.{ReceiverEnd}
 use Rattle.link.proofs.ReadOn.{deep}
 use Rattle.link.proofs.Agreed.{decoded-at-most}
-use Rattle.reader.specs.Stretches.{beforeFlag}
-use Rattle.reader.proofs.Steps.{begins}
+use Rattle.reader.specs.Stretches.{isFlag, beforeFlag}
 use Rattle.reader.proofs.Quiet.{within, skips-on, in-second, in-first}
 use Rattle.reader.proofs.stretch.Statement.{statement}
 use Rattle.reader.proofs.stretch.Tie as tie
@@ -39,7 +38,7 @@ used : (c : tie.After-before-flag2) → c .before-flag2 .result ≤ c .before .b
 used c =
     let n = c .before .before .lesser2 .result in
     let l = start c .args .octets .now in
-    omega (arith, counted c, within (take n l), length-take n l)
+    omega (arith, counted c, within isFlag (take n l), length-take n l)
 
 -- no refusal is remembered
 clean : (c : tie.After-before-flag2) → start c .args .state .refusal ≡ 0
@@ -61,13 +60,22 @@ returns : tie.Need-returns
 returns c =
     let s = c .before .before .before .before .before .before in
     let l = s .args .octets .now in
-    (rw (c .before-flag .ensures) (skips-on (found s) (s .pre) (c .before .if1 .taken) l), omega (arith, c .before-flag .ensures, within l))
+    (rw (c .before-flag .ensures) (skips-on (found s) (s .pre) (c .before .if1 .taken) l), omega (arith, c .before-flag .ensures, within isFlag l))
 
 cast-ahead : tie.Need-cast-ahead
 cast-ahead c = search needs
 
+plain-stretch-requires : tie.Need-plain-stretch-requires
+plain-stretch-requires c κs = let e = c .before .before .before .before in (e .before .before .before .before .before .pre, e .if1 .left)
+
+same-length : tie.Need-same-length
+same-length c = search needs
+
+same-length-2 : tie.Need-same-length-2
+same-length-2 c = search needs
+
 returns-2 : tie.Need-returns-2
-returns-2 c = (begins _ _, omega arith)
+returns-2 c = let p = c .before .before .before .before in (p .plain-stretch .ensures .0, p .plain-stretch .ensures .1)
 
 cast-at : tie.Need-cast-at
 cast-at c = search needs
@@ -108,8 +116,9 @@ cast-decoded c = omega (arith, used c, most (c .before .before), decoded-at-most
 sub-left : tie.Need-sub-left
 sub-left c = omega (arith, used c, most (c .before .before))
 
+-- as an octet, the data octets left are fewer than 256
 cast-left : tie.Need-cast-left
-cast-left c = search needs
+cast-left c = omega (arith, start c .good .0 .1 .1 .1 .1 .1 .1 .1 .1 .1 .1 .1 .1 .0 .1)
 
 sub-data : tie.Need-sub-data
 sub-data c = search needs
@@ -126,8 +135,8 @@ copy-data-requires c κs = fits (c .before .before .before) .1
 copy-data-requires-2 : tie.Need-copy-data-requires-2
 copy-data-requires-2 c κs = fits (c .before .before .before) .0
 
-same-length : tie.Need-same-length
-same-length c = search needs
+same-length-3 : tie.Need-same-length-3
+same-length-3 c = search needs
 
 returns-3 : tie.Need-returns-3
 returns-3 c =
@@ -138,8 +147,8 @@ returns-3 c =
       omega (arith, used u, most (u .before .before)),
     )
 
-same-length-2 : tie.Need-same-length-2
-same-length-2 c = search needs
+same-length-4 : tie.Need-same-length-4
+same-length-4 c = search needs
 
 returns-4 : tie.Need-returns-4
 returns-4 c =
@@ -157,6 +166,9 @@ stretch-spec =
     before-flag-requires
     returns
     cast-ahead
+    plain-stretch-requires
+    same-length
+    same-length-2
     returns-2
     cast-at
     sub-lesser
@@ -177,7 +189,7 @@ stretch-spec =
     part-data-end
     copy-data-requires
     copy-data-requires-2
-    same-length
+    same-length-3
     returns-3
-    same-length-2
+    same-length-4
     returns-4)

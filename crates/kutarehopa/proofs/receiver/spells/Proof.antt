@@ -1,6 +1,6 @@
 -- `kutarehopa::receiver::spells`.
-use borrow.Author.Needs.{needs}
 use Rattle.kutarehopa.specs.Layout.{spellReceiver}
+use borrow.Author.Needs.{needs}
 use Rattle.kutarehopa.proofs.receiver.spells.Statement.{statement}
 use Rattle.kutarehopa.proofs.receiver.spells.Tie as tie
 
@@ -34,10 +34,13 @@ element-copy-out-result-6 c = search needs
 element-copy-out-result-7 : tie.Need-element-copy-out-result-7
 element-copy-out-result-7 c = search needs
 
+element-copy-out-result-8 : tie.Need-element-copy-out-result-8
+element-copy-out-result-8 c = search needs
+
 returns : tie.Need-returns
 unfolding spellReceiver
 returns c =
-    let s = c .before .before .before .before .before .before .before in
+    let s = c .before .before .before .before .before .before .before .before in
     let r = s .before in
     rw (s .start .ensures, r .register-in .ensures, r .before .settings-in .ensures)
 
@@ -55,4 +58,5 @@ spells-spec =
     element-copy-out-result-5
     element-copy-out-result-6
     element-copy-out-result-7
+    element-copy-out-result-8
     returns)

@@ -7,6 +7,9 @@ use Rattle.kutarehopa.proofs.receiver.unpack.Tie as tie
 settings-in-requires : tie.Need-settings-in-requires
 settings-in-requires c κs = search needs
 
+map-in-requires : tie.Need-map-in-requires
+map-in-requires c κs = search needs
+
 register-in-requires : tie.Need-register-in-requires
 register-in-requires c κs = search needs
 
@@ -31,23 +34,29 @@ element-copy-out-last-block c = search needs
 last-block-requires : tie.Need-last-block-requires
 last-block-requires c κs = search needs
 
-element-copy-out-t15 : tie.Need-element-copy-out-t15
-element-copy-out-t15 c = search needs
+element-copy-out-mode-of : tie.Need-element-copy-out-mode-of
+element-copy-out-mode-of c = search needs
 
-element-copy-out-t8 : tie.Need-element-copy-out-t8
-element-copy-out-t8 c = search needs
+mode-of-requires : tie.Need-mode-of-requires
+mode-of-requires c κs = search needs
 
-element-copy-out-t12 : tie.Need-element-copy-out-t12
-element-copy-out-t12 c = search needs
+element-copy-out-t10 : tie.Need-element-copy-out-t10
+element-copy-out-t10 c = search needs
 
-element-copy-out-t27 : tie.Need-element-copy-out-t27
-element-copy-out-t27 c = search needs
+element-copy-out-t17 : tie.Need-element-copy-out-t17
+element-copy-out-t17 c = search needs
+
+element-copy-out-t14 : tie.Need-element-copy-out-t14
+element-copy-out-t14 c = search needs
 
 element-copy-out-t31 : tie.Need-element-copy-out-t31
 element-copy-out-t31 c = search needs
 
 element-copy-out-t35 : tie.Need-element-copy-out-t35
 element-copy-out-t35 c = search needs
+
+element-copy-out-t39 : tie.Need-element-copy-out-t39
+element-copy-out-t39 c = search needs
 
 element-copy-out-number-3 : tie.Need-element-copy-out-number-3
 element-copy-out-number-3 c = search needs
@@ -61,16 +70,19 @@ number-requires-2 c κs = search needs
 returns : tie.Need-returns
 unfolding receiverIn
 returns c =
-    let l = c .before .before .before .before .before .before .before .before .before in
+    let k = c .before .before .before .before .before .before .before .before .before in
+    let l = k .before .before in
     let f = l .before .before in
     let i = f .before .before .before .before .before in
     rw (
       c .number2 .ensures,
+      k .mode-of .ensures,
       l .last-block .ensures,
       f .fragment .ensures,
       f .before .number .ensures,
       i .register-in .ensures,
-      i .before .settings-in .ensures,
+      i .before .map-in .ensures,
+      i .before .before .settings-in .ensures,
     )
 
 pub unpack-spec : {M : Type 1} → statement M
@@ -78,6 +90,7 @@ unpack-spec =
     tie.close
     (tie.spec
     settings-in-requires
+    map-in-requires
     register-in-requires
     element-copy-out-fragment
     element-copy-out-number
@@ -86,12 +99,14 @@ unpack-spec =
     fragment-requires
     element-copy-out-last-block
     last-block-requires
-    element-copy-out-t15
-    element-copy-out-t8
-    element-copy-out-t12
-    element-copy-out-t27
+    element-copy-out-mode-of
+    mode-of-requires
+    element-copy-out-t10
+    element-copy-out-t17
+    element-copy-out-t14
     element-copy-out-t31
     element-copy-out-t35
+    element-copy-out-t39
     element-copy-out-number-3
     element-copy-out-number-4
     number-requires-2

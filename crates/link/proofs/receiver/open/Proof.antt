@@ -23,8 +23,8 @@ returns-2 c =
       sym (w .valid-width .ensures) ∙ not-true (w .valid-width .result) (c .if2 .taken),
     )
 
-out-of-frame-requires : tie.Need-out-of-frame-requires
-out-of-frame-requires c κs = search needs
+opened-requires : tie.Need-opened-requires
+opened-requires c κs = search needs
 
 returns-3 : tie.Need-returns-3
 returns-3 c =
@@ -32,10 +32,10 @@ returns-3 c =
     let w = i .before in
     let v = w .before .before in
     rw (
-      c .out-of-frame .ensures,
+      c .opened .ensures,
       sym (v .valid-limit .ensures) ∙ not-false (v .valid-limit .result) (w .before .if1 .left),
       sym (w .valid-width .ensures) ∙ not-false (w .valid-width .result) (i .if2 .left),
     )
 
 pub open-spec : {M : Type 1} → statement M
-open-spec = tie.close (tie.spec valid-limit-requires returns valid-width-requires returns-2 out-of-frame-requires returns-3)
+open-spec = tie.close (tie.spec valid-limit-requires returns valid-width-requires returns-2 opened-requires returns-3)

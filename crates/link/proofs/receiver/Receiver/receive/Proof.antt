@@ -1,20 +1,17 @@
--- `link::receiver::Receiver::receive`. Each return by the case of the steps that it is.
+-- `link::receiver::Receiver::receive`. The tests of the call, and then what is read.
 use mathlib.Core.Path.{_≡_, sym, ap, _∙_}
-use mathlib.Core.Bool.{true, false, not, _||_}
-use Prim.Native.Nat.{ℕ, _≤_}
-use lib.Dec.{ltb, eqb}
+use mathlib.Core.Bool.{true, false, _||_}
+use Prim.Native.Nat.{ℕ}
+use lib.Dec.{ltb}
 use lib.ListN.{length}
-use native.Mathlib.Omega.{arith}
 use borrow.Author.Needs.{needs}
-use borrow.Author.Tests.{not-true, not-false, eqb-true, eq-eqb}
+use borrow.Author.Tests.{not-true, not-false}
 use Rattle.link.specs.Agreed.{agreed, valid, mostDecoded}
-use Rattle.cobs.specs.CodeBlocks.{fromLine}
-use Rattle.cobs.proofs.Tests.{decide, and-left, and-right}
-use Rattle.link.specs.Receiver.{Receiver, Working, ReceiverEnd, inBounds, steps1To4, flagged}
-use Rattle.link.proofs.Tests.{and-intro, true-false, not-below}
-use Rattle.link.proofs.ReceiverBounds.{ok-if-in-bounds, bounds as facts}
-use Rattle.link.proofs.ReceiverCases.{not-valid, too-short, out-of-bounds, flag-first, flag-second}
-use Rattle.link.proofs.ReceiverCases.{skipped, D1-first, D1-second, octet-first, octet-second, inFirst, inSecond}
+use Rattle.link.specs.Receiver.{ReceiverEnd, isPlain}
+use Rattle.link.specs.ReceiverParts.{ReceiverReady}
+use Rattle.link.proofs.Tests.{not-below}
+use Rattle.link.proofs.Cobs.{cobsReceive, in-plain, begins, in-cobs}
+use Rattle.link.proofs.ReceiverCases.{not-valid, too-short, out-of-bounds, begins-first, begins-second, inFirst, inSecond}
 use Rattle.link.proofs.receiver.Receiver.receive.Statement.{statement}
 use Rattle.link.proofs.receiver.Receiver.receive.Tie as tie
 
@@ -52,9 +49,6 @@ most c = mostDecoded (agreed (begun c .args .self .settings))
 enough : (c : tie.Else2) → (ltb (length (begun c .args .first .now)) (most c) || ltb (length (begun c .args .second .now)) (most c)) ≡ false
 enough c = rw (c .before .most-decoded .ensures) at (c .if2 .left)
 
-long : (c : tie.Else2) → (most c ≤ length (begun c .args .first .now)) × (most c ≤ length (begun c .args .second .now))
-long c = not-below (length (begun c .args .first .now)) (most c) (length (begun c .args .second .now)) (most c) (enough c)
-
 in-bounds-requires : tie.Need-in-bounds-requires
 in-bounds-requires c κs = search needs
 
@@ -65,156 +59,105 @@ returns-3 c =
     let no = sym (b .in-bounds .ensures) ∙ not-true (b .in-bounds .result) (c .if3 .taken) in
     sym (out-of-bounds (found (begun s)) _ (taken (s .before .before)) (enough s) no)
 
--- behind the third the state is in bounds
+-- behind the third the state is in bounds: the call isn't refused
 abbrev start : tie.Else3 → tie.Start
 start c = begun (c .before .before)
 
-ok : (c : tie.Else3) → valid (agreed (start c .args .self .settings)) ≡ true
-ok c = taken (c .before .before .before .before)
+ready : (c : tie.Else3) → ReceiverReady (found (start c))
+ready c =
+    let b = c .before in
+    let s = b .before in
+    let a = begun s .args in
+    let long = not-below (length (a .first .now)) (most s) (length (a .second .now)) (most s) (enough s) in
+    record {
+      valid = taken (s .before .before);
+      first = long .0;
+      second = long .1;
+      bounds = sym (b .in-bounds .ensures) ∙ not-false (b .in-bounds .result) (c .if3 .left);
+    }
 
-bounds : (c : tie.Else3) → inBounds (agreed (start c .args .self .settings)) (start c .args .self) ≡ true
-bounds c = sym (c .before .in-bounds .ensures) ∙ not-false (c .before .in-bounds .result) (c .if3 .left)
+is-plain-requires : tie.Need-is-plain-requires
+is-plain-requires c κs = search needs
 
-fits : (c : tie.Else3) → start c .args .self .decoded ≤ most (c .before .before)
-fits c = facts _ _ (bounds c) .deep
-
-at-flag-requires : tie.Need-at-flag-requires
-at-flag-requires c κs = let b = c .before .before .before in omega (arith, fits b, long (b .before .before))
-
-at-flag-requires-2 : tie.Need-at-flag-requires-2
-at-flag-requires-2 c κs = let b = c .before .before .before in omega (arith, fits b, long (b .before .before))
+-- plain PPP is read
+receive-plain-requires : tie.Need-receive-plain-requires
+receive-plain-requires c κs = ready (c .before .before .before .before)
 
 same-length : tie.Need-same-length
 same-length c = search needs
 
-returns-4 : tie.Need-returns-4
-returns-4 c =
-    let t = c .before .before in
-    let b = t .before .before in
-    let e = found (start b) in
-    ap (flagged e) (c .at-flag .ensures) ∙ sym (flag-second e _ (ok b) (enough (b .before .before)) (bounds b) (t .before .if4 .taken) (t .if5 .taken))
-
 same-length-2 : tie.Need-same-length-2
 same-length-2 c = search needs
 
-returns-5 : tie.Need-returns-5
-returns-5 c =
-    let t = c .before .before in
-    let b = t .before .before in
-    let e = found (start b) in
-    ap (flagged e) (c .at-flag2 .ensures) ∙ sym (flag-first e _ (ok b) (enough (b .before .before)) (bounds b) (t .before .if4 .taken) (t .if5 .left))
+returns-4 : tie.Need-returns-4
+returns-4 c =
+    let w = c .before .before .before .before in
+    let t = w .before .before .before in
+    let p = t .before in
+    let b = p .before in
+    w .receive-plain .ensures ∙ sym (in-plain (found (start b)) _ (ready b) (sym (p .is-plain .ensures) ∙ t .if4 .taken))
 
-returns-6 : tie.Need-returns-6
-returns-6 c =
-    let t = c .before .before in
-    let b = t .before in
-    sym (skipped (found (start b)) _ (ok b) (enough (b .before .before)) (bounds b) (t .if4 .left) (c .if6 .taken))
+begins-plain-requires : tie.Need-begins-plain-requires
+begins-plain-requires c κs = search needs
 
-from-line-requires : tie.Need-from-line-requires
-from-line-requires c κs = search needs
+-- or COBS
+abbrev over : tie.Else4 → tie.Else3
+over c = c .before .before
 
--- D1 that begins a frame
-abbrev turned : tie.Then7 → tie.Else6
-turned c = c .before .before .before
+in-frames : (c : tie.Else4) → isPlain (start (over c) .args .self .mode) ≡ false
+in-frames c = sym (c .before .is-plain .ensures) ∙ c .if4 .left
 
-is-D1 : (c : tie.Then7) → (fromLine (start (turned c .before .before .before) .args .octet) ≡ 0xD1) × (start (turned c .before .before .before) .args .self .framed ≡ false)
-is-D1 c =
-    let l = c .before .before in
-    let framed = start (turned c .before .before .before) .args .self .framed in (
-      sym (l .from-line .ensures) ∙ eqb-true _ _ (and-left (eqb (l .from-line .result) 0xD1) (not framed) (c .if7 .taken)),
-      not-true framed (and-right (eqb (l .from-line .result) 0xD1) (not framed) (c .if7 .taken)),
-    )
+-- plain reading begins
+begin-plain-requires : tie.Need-begin-plain-requires
+begin-plain-requires c κs = let a = ready (over (c .before .before .before .before)) in (a .valid, a .second)
 
-step1-d1-requires : tie.Need-step1-d1-requires
-step1-d1-requires c κs =
-    let b = turned (c .before .before) .before .before .before in
-    (ok-if-in-bounds _ _ (bounds b), long (b .before .before) .0)
-
-step1-d1-requires-2 : tie.Need-step1-d1-requires-2
-step1-d1-requires-2 c κs =
-    let b = turned (c .before .before) .before .before .before in
-    (ok-if-in-bounds _ _ (bounds b), long (b .before .before) .1)
+begin-plain-requires-2 : tie.Need-begin-plain-requires-2
+begin-plain-requires-2 c κs = let a = ready (over (c .before .before .before .before)) in (a .valid, a .first)
 
 same-length-3 : tie.Need-same-length-3
 same-length-3 c = search needs
 
-returns-7 : tie.Need-returns-7
-returns-7 c =
-    let t = c .before .before in
-    let i = t .before in
-    let n = turned i in
-    let b = n .before .before .before in
+returns-5 : tie.Need-returns-5
+returns-5 c =
+    let w = c .before .before in
+    let t = w .before .before in
+    let p = t .before .before in
+    let b = over (p .before) in
     let e = found (start b) in
-    ap (λ (s : Receiver). inSecond e (record { state = s; area = e .second })) (c .step1-d1 .ensures)
-    ∙ sym (D1-second e _ (ok b) (enough (b .before .before)) (bounds b) (n .before .before .if4 .left) (n .if6 .left) (is-D1 i .1) (is-D1 i .0) (t .if8 .taken))
+    ap (inSecond e) (w .begin-plain .ensures)
+    ∙ sym (begins e _ (ready b) (in-frames (p .before)) (sym (p .begins-plain .ensures) ∙ t .before .if5 .taken) ∙ begins-second e (start b .args .octet) (t .if6 .taken))
 
 same-length-4 : tie.Need-same-length-4
 same-length-4 c = search needs
 
-returns-8 : tie.Need-returns-8
-returns-8 c =
-    let t = c .before .before in
-    let i = t .before in
-    let n = turned i in
-    let b = n .before .before .before in
+returns-6 : tie.Need-returns-6
+returns-6 c =
+    let w = c .before .before in
+    let t = w .before .before in
+    let p = t .before .before in
+    let b = over (p .before) in
     let e = found (start b) in
-    ap (λ (s : Receiver). inFirst e (record { state = s; area = e .first })) (c .step1-d12 .ensures)
-    ∙ sym (D1-first e _ (ok b) (enough (b .before .before)) (bounds b) (n .before .before .if4 .left) (n .if6 .left) (is-D1 i .1) (is-D1 i .0) (t .if8 .left))
+    ap (inFirst e) (w .begin-plain2 .ensures)
+    ∙ sym (begins e _ (ready b) (in-frames (p .before)) (sym (p .begins-plain .ensures) ∙ t .before .if5 .taken) ∙ begins-first e (start b .args .octet) (t .if6 .left))
 
--- any other octet
-abbrev other : tie.Else7 → tie.Else6
-other c = c .before .before .before
-
--- a D1 is within a frame
-within : (c : tie.Else7) → c .before .before .from-line .result ≡ 0xD1 → start (other c .before .before .before) .args .self .framed ≡ true
-within c q =
-    let framed = start (other c .before .before .before) .args .self .framed in
-    let x = c .before .before .from-line .result in
-    decide framed (λ f. f) (λ f. true-false (sym (and-intro (eqb x 0xD1) (not framed) (eq-eqb x 0xD1 q) (ap not f)) ∙ c .if7 .left))
-
-steps-1-to-4-requires : tie.Need-steps-1-to-4-requires
-steps-1-to-4-requires c κs =
-    let i = c .before .before in
-    let n = other i in
-    let b = n .before .before .before in
-    ((n .if6 .left, ok b, long (b .before .before) .1), within i)
-
-steps-1-to-4-requires-2 : tie.Need-steps-1-to-4-requires-2
-steps-1-to-4-requires-2 c κs =
-    let i = c .before .before in
-    let n = other i in
-    let b = n .before .before .before in
-    ((n .if6 .left, ok b, long (b .before .before) .0), within i)
+-- COBS goes on
+receive-cobs-requires : tie.Need-receive-cobs-requires
+receive-cobs-requires c κs = ready (over (c .before .before .before .before))
 
 same-length-5 : tie.Need-same-length-5
 same-length-5 c = search needs
 
-returns-9 : tie.Need-returns-9
-returns-9 c =
-    let w = c .before .before in
-    let t = w .before .before in
-    let i = t .before in
-    let n = other i in
-    let b = n .before .before .before in
-    let e = found (start b) in
-    let area : Working = record { state = e .state; area = e .second } in
-    ap (inSecond e) (w .steps-1-to-4 .ensures (e .first) ∙ ap (steps1To4 (agreed (e .state .settings)) (e .first) area) (i .before .before .from-line .ensures))
-    ∙ sym (octet-second e _ (ok b) (enough (b .before .before)) (bounds b) (n .before .before .if4 .left) (t .if9 .taken))
-
 same-length-6 : tie.Need-same-length-6
 same-length-6 c = search needs
 
-returns-10 : tie.Need-returns-10
-returns-10 c =
-    let w = c .before .before in
-    let t = w .before .before in
-    let i = t .before in
-    let n = other i in
-    let b = n .before .before .before in
-    let e = found (start b) in
-    let area : Working = record { state = e .state; area = e .first } in
-    ap (inFirst e) (w .steps-1-to-42 .ensures (e .second) ∙ ap (steps1To4 (agreed (e .state .settings)) (e .second) area) (i .before .before .from-line .ensures))
-    ∙ sym (octet-first e _ (ok b) (enough (b .before .before)) (bounds b) (n .before .before .if4 .left) (t .if9 .left))
+returns-7 : tie.Need-returns-7
+unfolding cobsReceive
+returns-7 c =
+    let w = c .before .before .before .before in
+    let t = w .before .before .before in
+    let p = t .before in
+    let b = over (p .before) in
+    w .receive-cobs .ensures ∙ sym (in-cobs (found (start b)) _ (ready b) (in-frames (p .before)) (sym (p .begins-plain .ensures) ∙ t .if5 .left))
 
 pub receive-spec : {M : Type 1} → statement M
 receive-spec =
@@ -226,23 +169,19 @@ receive-spec =
     returns-2
     in-bounds-requires
     returns-3
-    at-flag-requires
-    at-flag-requires-2
+    is-plain-requires
+    receive-plain-requires
     same-length
-    returns-4
     same-length-2
-    returns-5
-    returns-6
-    from-line-requires
-    step1-d1-requires
-    step1-d1-requires-2
+    returns-4
+    begins-plain-requires
+    begin-plain-requires
+    begin-plain-requires-2
     same-length-3
-    returns-7
+    returns-5
     same-length-4
-    returns-8
-    steps-1-to-4-requires
-    steps-1-to-4-requires-2
+    returns-6
+    receive-cobs-requires
     same-length-5
-    returns-9
     same-length-6
-    returns-10)
+    returns-7)

@@ -1,8 +1,11 @@
 -- `link::receiver::Receiver::step5_flag`.
-use mathlib.Core.Path.{_≡_, sym, _∙_}
+use mathlib.Core.Path.{_≡_, sym, ap, _∙_}
 use mathlib.Core.Bool.{false}
+use Prim.Native.Nat.{_-_}
+use native.Mathlib.Omega.{arith}
 use borrow.Author.Needs.{needs}
-use Rattle.link.specs.Receiver.{isNoBlock}
+use Rattle.link.specs.Agreed.{agreed}
+use Rattle.link.specs.Receiver.{isNoBlock, step5WithoutPhantom, step5Flag}
 use Rattle.link.proofs.ReceiverCases.{remembered, no-block, broken-off, full-block, all-blocks}
 use Rattle.link.proofs.receiver.Receiver.step5_flag.Statement.{statement}
 use Rattle.link.proofs.receiver.Receiver.step5_flag.Tie as tie
@@ -49,16 +52,31 @@ returns-4 c =
     c .step5-end3 .ensures
     ∙ sym (full-block _ _ _ (t .before .before .if1 .left) (some-block t) (b .if3 .left) (sym (d .is-d0 .ensures) ∙ c .before .if4 .taken))
 
-step5-without-phantom-requires : tie.Need-step5-without-phantom-requires
-step5-without-phantom-requires c κs = search needs
+-- the blocks are whole
+abbrev start : tie.Else4 → tie.Start
+start c = c .before .before .before .before .before .before .before .before .before
 
-returns-5 : tie.Need-returns-5
-returns-5 c =
-    let d = c .before .before in
+whole : (c : tie.Else4)
+    → (let a = start c .args in
+    let g = agreed (a .self .settings) in
+    step5Flag g (a .self) (a .area .now) ≡ step5WithoutPhantom g (a .self) (a .area .now) (a .self .decoded - 1))
+whole c =
+    let d = c .before in
     let b = d .before in
     let t = b .before .before in
-    c .step5-without-phantom .ensures
-    ∙ sym (all-blocks _ _ _ (t .before .before .if1 .left) (some-block t) (b .if3 .left) (sym (d .is-d0 .ensures) ∙ c .before .if4 .left))
+    all-blocks _ _ _ (t .before .before .if1 .left) (some-block t) (b .if3 .left) (sym (d .is-d0 .ensures) ∙ c .if4 .left)
+
+cast-without-phantom : tie.Need-cast-without-phantom
+cast-without-phantom c = search needs
+
+without-phantom-requires : tie.Need-without-phantom-requires
+without-phantom-requires c κs = search needs
+
+step5-without-phantom-requires : tie.Need-step5-without-phantom-requires
+step5-without-phantom-requires c κs = omega (arith, c .without-phantom .ensures, start (c .before .before) .pre)
+
+returns-5 : tie.Need-returns-5
+returns-5 c = c .step5-without-phantom .ensures ∙ ap (step5WithoutPhantom _ _ _) (c .before .without-phantom .ensures) ∙ sym (whole (c .before .before .before))
 
 pub step5-flag-spec : {M : Type 1} → statement M
 step5-flag-spec =
@@ -74,5 +92,7 @@ step5-flag-spec =
     is-d0-requires
     step5-end-requires-3
     returns-4
+    cast-without-phantom
+    without-phantom-requires
     step5-without-phantom-requires
     returns-5)

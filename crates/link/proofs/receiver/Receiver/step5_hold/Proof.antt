@@ -22,14 +22,18 @@ part-register-end c = search needs
 register-requires : tie.Need-register-requires
 register-requires c κs = search needs
 
-out-of-frame-requires : tie.Need-out-of-frame-requires
-out-of-frame-requires c κs = search needs
+escape-over-requires : tie.Need-escape-over-requires
+escape-over-requires c κs = search needs
+
+fresh-requires : tie.Need-fresh-requires
+fresh-requires c κs = search needs
 
 returns : tie.Need-returns
 returns c =
     let o = c .before in
-    let g = o .before .before in
-    simp (o .out-of-frame .ensures, rw sub-zero at (g .register .ensures), g .before .before .before .is-held .ensures)
+    let e = o .before .before in
+    let g = e .before in
+    simp (o .fresh .ensures, e .escape-over .ensures, rw sub-zero at (g .register .ensures), g .before .before .before .is-held .ensures)
 
 pub step5-hold-spec : {M : Type 1} → statement M
 step5-hold-spec =
@@ -41,5 +45,6 @@ step5-hold-spec =
     part-register-start
     part-register-end
     register-requires
-    out-of-frame-requires
+    escape-over-requires
+    fresh-requires
     returns)

@@ -1,6 +1,6 @@
 -- `link::receiver::Receiver::step5_without_phantom`.
 use mathlib.Core.Path.{sym, _∙_}
-use Prim.Native.Nat.{_-_, _≤_, _<_}
+use Prim.Native.Nat.{_≤_}
 use native.Mathlib.Omega.{arith}
 use native.Mathlib.Nat.{sub-zero}
 use borrow.Author.Needs.{needs}
@@ -10,9 +10,6 @@ use Rattle.link.specs.Receiver.{step5WithoutPhantom}
 use Rattle.link.proofs.receiver.Receiver.step5_without_phantom.Statement.{statement}
 use Rattle.link.proofs.receiver.Receiver.step5_without_phantom.Tie as tie
 
-cast-decoded : tie.Need-cast-decoded
-cast-decoded c = search needs
-
 least-frame-requires : tie.Need-least-frame-requires
 least-frame-requires c κs = search needs
 
@@ -21,18 +18,11 @@ step5-end-requires c κs = search needs
 
 returns : tie.Need-returns
 unfolding step5WithoutPhantom
-returns c =
-    let i = c .before in
-    let r = i .before .before .before .before .args .self in
-    let h : r .decoded - 1 < leastFrame (agreed (r .settings)) = omega (arith, rw (i .before .least-frame .ensures) at (i .if1 .taken)) in
-    simp (lt-ltb _ _ h) (c .step5-end .ensures)
+returns c = let i = c .before in simp (lt-ltb _ _ (rw (i .before .least-frame .ensures) at (i .if1 .taken))) (c .step5-end .ensures)
 
 -- the octets are enough for a frame
-enough : (c : tie.Else1) → (let r = c .before .before .before .before .args .self in leastFrame (agreed (r .settings)) ≤ r .decoded - 1)
-enough c = omega (arith, rw (c .before .least-frame .ensures) at (c .if1 .left))
-
-sub-n : tie.Need-sub-n
-sub-n c = search needs
+enough : (c : tie.Else1) → (let a = c .before .before .before .args in leastFrame (agreed (a .self .settings)) ≤ a .n)
+enough c = rw (c .before .least-frame .ensures) at (c .if1 .left)
 
 sub-good : tie.Need-sub-good
 sub-good c = search needs
@@ -78,11 +68,9 @@ pub step5-without-phantom-spec : {M : Type 1} → statement M
 step5-without-phantom-spec =
     tie.close
     (tie.spec
-    cast-decoded
     least-frame-requires
     step5-end-requires
     returns
-    sub-n
     sub-good
     part-good-start
     part-good-end
