@@ -1,8 +1,7 @@
-/* The C library, measured: the jobs of the programs capture and send, over kuta_receive and kuta_next octet by octet, over the stretches or, of
- * send, over the dispatcher octet by octet.
+/* The C library, measured: the jobs of the programs capture and send, over kuta_receive and kuta_next octet by octet or over the stretches.
  *
  *     clibrary capture-octets|capture-stretches < CAPTURE       the lines of capture
- *     clibrary send-octets|send-stretches|send-dispatched < RECORDS    the octets of send, of records that wait for nothing
+ *     clibrary send-octets|send-stretches < RECORDS             the octets of send, of records that wait for nothing
  */
 #include <stdio.h>
 #include <stdlib.h>
@@ -87,14 +86,12 @@ static void capture(void (*take)(const uint8_t *, size_t)) {
 
 /* ---- send */
 
-static void put_octet(uint32_t answer) {
-    page[filled++] = (char)kuta_value(answer);
-    if (filled >= PIECE) write_page();
-}
-
 static void send_octets(void) {
     uint32_t answer;
-    while (kuta_kind(answer = kuta_next(state, one, sizeof one, other, sizeof other)) == KUTA_OCTET) put_octet(answer);
+    while (kuta_kind(answer = kuta_next(state, one, sizeof one, other, sizeof other)) == KUTA_OCTET) {
+        page[filled++] = (char)kuta_value(answer);
+        if (filled >= PIECE) write_page();
+    }
 }
 
 static void send_stretches(void) {
@@ -104,46 +101,18 @@ static void send_stretches(void) {
         put((const char *)line, stretch.octets);
 }
 
-/* The next record's packet, and its length; 0 at the end. */
-static size_t next_packet(uint8_t *packet, size_t room) {
-    uint8_t head[5];
-    size_t length;
-    if (fread(head, 1, sizeof head, stdin) != sizeof head) return 0;
-    length = head[3] * 256u + head[4];
-    if (head[0] != 'L' || head[1] != 0 || head[2] != 0 || length > room || fread(packet, 1, length, stdin) != length)
-        fail("a record that is not for this");
-    return length;
-}
-
-static uint8_t settings_octet(void) {
-    const int settings = getchar();
-    if (settings == EOF) fail("there is no settings octet");
-    return (uint8_t)settings;
-}
-
-static void loaded(uint32_t answer) {
-    if (kuta_kind(answer) != KUTA_DONE) fail("a load is refused");
-}
-
 static void send_all(void (*send)(void)) {
     static uint8_t packet[KUTA_DEFAULT_LIMIT];
-    size_t length;
-    kuta_sender_open(state, settings_octet(), KUTA_DEFAULT_WIDTH, KUTA_DEFAULT_LIMIT);
-    while ((length = next_packet(packet, sizeof packet)) > 0) {
-        loaded(kuta_load_low(state, packet, length, one, sizeof one));
+    uint8_t head[5];
+    int settings = getchar();
+    if (settings == EOF) fail("there is no settings octet");
+    kuta_sender_open(state, (uint8_t)settings, KUTA_DEFAULT_WIDTH, KUTA_DEFAULT_LIMIT);
+    while (fread(head, 1, sizeof head, stdin) == sizeof head) {
+        const size_t length = head[3] * 256u + head[4];
+        if (head[0] != 'L' || head[1] != 0 || head[2] != 0 || length > sizeof packet || fread(packet, 1, length, stdin) != length)
+            fail("a record that is not for this");
+        if (kuta_kind(kuta_load_low(state, packet, length, one, sizeof one)) != KUTA_DONE) fail("a load is refused");
         send();
-    }
-}
-
-static void send_dispatched(void) {
-    static uint8_t packet[KUTA_DEFAULT_LIMIT], waiting[KUTA_LINE_AREA(KUTA_DEFAULT_LIMIT)];
-    size_t length;
-    uint32_t answer;
-    kuta_dispatcher_open(state, settings_octet(), KUTA_DEFAULT_WIDTH, KUTA_DEFAULT_LIMIT);
-    while ((length = next_packet(packet, sizeof packet)) > 0) {
-        loaded(kuta_dispatcher_load_low(state, packet, length, one, sizeof one));
-        while (kuta_kind(answer = kuta_dispatcher_next(state, one, sizeof one, other, sizeof other, waiting, sizeof waiting)) == KUTA_OCTET)
-            put_octet(answer);
     }
 }
 
@@ -153,8 +122,7 @@ int main(int count, char **words) {
     else if (strcmp(job, "capture-stretches") == 0) capture(read_stretches);
     else if (strcmp(job, "send-octets") == 0) send_all(send_octets);
     else if (strcmp(job, "send-stretches") == 0) send_all(send_stretches);
-    else if (strcmp(job, "send-dispatched") == 0) send_dispatched();
-    else fail("capture-octets, capture-stretches, send-octets, send-stretches or send-dispatched");
+    else fail("capture-octets, capture-stretches, send-octets or send-stretches");
     write_page();
     if (fclose(stdout) != 0) fail("standard output cannot be written");
     return 0;

@@ -39,8 +39,6 @@ CLIBRARY_ROWS = [
     ("send-octets", "send-40.records"),
     ("send-stretches", "send-1400.records"),
     ("send-stretches", "send-40.records"),
-    ("send-dispatched", "send-1400.records"),
-    ("send-dispatched", "send-40.records"),
 ]
 RUNS = 5
 

@@ -1,5 +1,5 @@
 #!/usr/bin/env python3
-"""Writes the sample captures, and beside each what the independent model (tests/model) prints of it; and samples for send.
+"""Writes the sample captures, and beside each what the independent model (tests/model) prints of it; and a sample for send.
 
     python3 examples/make.py MODEL      MODEL: tests/model/model.rs, compiled
 
@@ -22,8 +22,8 @@ def load(letter, packet):
     return letter + struct.pack("<H", len(packet)) + packet
 
 
-def calls(n, letter=b"n"):
-    return letter + struct.pack("<H", n)
+def calls(n):
+    return b"n" + struct.pack("<H", n)
 
 
 def opened(letter, width, limit=2048):
@@ -36,14 +36,6 @@ def opened(letter, width, limit=2048):
 def sent(script, width=16, limit=2048):
     """The octets that a fresh sender writes for a script."""
     lines = model("exercise", opened(b"o", width, limit) + script).decode().split("\n")
-    return bytes(int(line[2:], 16) for line in lines if line.startswith("O "))
-
-
-def dispatched(script):
-    """The octets that a fresh dispatcher writes for a script: g and j are its loads, k its calls."""
-    script = b"L" + struct.pack("<I", 8 * 2048) + b"q" + struct.pack("<BBH", 3, 16, 2048) + script
-    lines = model("exercise", b"a" + struct.pack("<4H", 2052, 2052, 2053, 2053) + script).decode().split("\n")
-    assert lines.pop() == "" and all(line[0] in "DOI" for line in lines) and lines[-1] == "I"
     return bytes(int(line[2:], 16) for line in lines if line.startswith("O "))
 
 
@@ -225,8 +217,7 @@ def modem_after():
 
 
 # ---- for the sender: a file of packets (docs/SEND.md), and the line that the model makes of the same calls; with 16 bits and with 32;
-# and a day's readings in one packet, longer than 2,048 octets, broken off by the alarm, on a link that has agreed on 4,000;
-# and a long batch with five alarms through the dispatcher, datagrams 971 to 976
+# and a day's readings in one packet, longer than 2,048 octets, broken off by the alarm, on a link that has agreed on 4,000
 
 BATCH = datagram(921, 9, b"T-13.1 W40 T-13.3 W41 T-13.2 W44")
 ALARM = datagram(922, 911, b"WIND 44")
@@ -240,10 +231,6 @@ RECORDS = record(b"L", 0, BATCH) + record(b"H", 40, ALARM) + record(b"L", 0, ech
 DAY = datagram(923, 9, b" ".join(b"T-13.%d W%d" % (n % 10, 30 + n % 15) for n in range(240)))
 DAY_RECORDS = record(b"L", 0, DAY) + record(b"H", 1000, ALARM)
 DAY_CALLS = load(b"l", DAY) + calls(1000) + load(b"h", ALARM) + calls(9000)
-LONG_BATCH = datagram(971, 9, b" ".join(b"T-13.%d W%d" % (n % 10, 40 + n % 7) for n in range(14)))
-ALARMS = [datagram(972 + n, 911, b"WIND %d" % (44 + n)) for n in range(5)]
-URGENT_RECORDS = record(b"L", 0, LONG_BATCH) + b"".join(record(b"H", 0 if n else 40, alarm) for n, alarm in enumerate(ALARMS))
-URGENT_CALLS = load(b"g", LONG_BATCH) + calls(40, b"k") + b"".join(load(b"j", alarm) for alarm in ALARMS) + calls(5000, b"k")
 CALLS = load(b"l", BATCH) + calls(40) + load(b"h", ALARM) + calls(9000) + load(b"l", echo_reply(91)) + calls(5000)
 
 
@@ -261,5 +248,3 @@ assert received(sent(CALLS, 32), 32) == model("capture", sent(CALLS))  # so alar
 put("day.records", b"\x03M\x0f\xa0" + DAY_RECORDS)
 put("day.line", sent(DAY_CALLS, 16, 4000))
 put("day.reports", received(sent(DAY_CALLS, 16, 4000), 16, 4000))
-write("urgent", dispatched(URGENT_CALLS))
-put("urgent.records", b"\x03D" + URGENT_RECORDS)

@@ -22,7 +22,7 @@ extern "C" {
 
 /* ---- Lengths, in octets */
 
-#define KUTA_STATE 64           /* a state, of either end, of a dispatcher or of a plain sender */
+#define KUTA_STATE 64           /* a state, of either end or of a plain sender */
 #define KUTA_LEAST_PACKET 2     /* the shortest packet; the longest has as many octets as the limit, below */
 #define KUTA_LARGEST_LIMIT 16384
 
@@ -30,10 +30,6 @@ extern "C" {
  * With constants they serve as lengths of arrays. Those of width 32 and of a larger limit are long enough for the others too. */
 #define KUTA_SENDER_AREA(width, limit) ((size_t)(limit) + (size_t)(width) / 8)
 #define KUTA_RECEIVER_AREA(width, limit) (KUTA_SENDER_AREA(width, limit) + 1)
-
-/* The least length of a dispatcher's line: a place of the limit's length for each of the packets that may wait. */
-#define KUTA_PLACES 8
-#define KUTA_LINE_AREA(limit) (KUTA_PLACES * (size_t)(limit))
 
 /* The most that a plain sender's frame takes with its flag, where every octet is escaped. Most frames take about half of it. */
 #define KUTA_PLAIN_AREA(width, limit) (2 * KUTA_SENDER_AREA(width, limit) + 1)
@@ -76,11 +72,11 @@ static inline unsigned kuta_value(uint32_t answer) { return (unsigned)(answer & 
 /* How many octets a call wrote to its area; 0 where it was refused. */
 static inline size_t kuta_written(uint32_t answer) { return kuta_kind(answer) == KUTA_WRITTEN ? kuta_value(answer) : 0; }
 
-/* Refusals. 1 to 4, 19, 22 and 23 refuse a call, which has then changed no octet of its state and of its areas. An opening tests the limit, 23,
+/* Refusals. 1 to 4, 19 and 23 refuse a call, which has then changed no octet of its state and of its areas. An opening tests the limit, 23,
  * and then the width, 3; that of a pair then the maps, 19. Any other call tests width and limit first, 3; then the rest in the order 2, 3,
- * 4, 22, 1. 5 to 14, 18 and 21 are what the receiver reports of a frame that brings no packet; the call itself was taken. */
+ * 4, 1. 5 to 14, 18 and 21 are what the receiver reports of a frame that brings no packet; the call itself was taken. */
 enum kuta_refusals {
-    KUTA_BAD_LENGTH = 1,      /* a load, plain send: a packet of fewer than 2 octets, or more than the limit */
+    KUTA_BAD_LENGTH = 1,      /* load, plain send: a packet of fewer than 2 octets, or more than the limit */
     KUTA_SHORT_AREA = 2,      /* an area is shorter than its least length, for the state's width and limit; plain send: than the frame */
     KUTA_BAD_STATE = 3,       /* the width is neither 16 nor 32, or a state's limit out of range; the octets are no state (CLIBRARY.md), or one
                                  out of bounds (READING.md) */
@@ -98,7 +94,6 @@ enum kuta_refusals {
     KUTA_ESCAPE_OPEN = 18,    /* plain PPP: it ends behind an escape, 7D, which an octet must follow */
     KUTA_BAD_MAPS = 19,       /* opening a pair: the two maps do not go together (READING.md, "Plain PPP") */
     KUTA_AREA_CHANGED = 21,   /* it resumes a packet, and the octets held of it are not those that came; nothing is held from its D1 on */
-    KUTA_LINE_FULL = 22,      /* a dispatcher's high load: KUTA_PLACES packets wait already */
     KUTA_BAD_LIMIT = 23       /* an opening: the limit is not from 2 to KUTA_LARGEST_LIMIT */
 };
 
@@ -170,31 +165,6 @@ uint32_t kuta_next(uint8_t state[KUTA_STATE], const uint8_t *low, size_t low_len
  * lies behind the octets written stays. */
 kuta_stretch kuta_write_on(uint8_t state[KUTA_STATE], const uint8_t *low, size_t low_length, const uint8_t *high, size_t high_length,
                            uint8_t *line, size_t line_length);
-
-/* ---- The dispatcher
- *
- * A sender with a line of waiting high packets above it, and a rule by which they do not hold up the low lane for good: once three high
- * packets closed since the low one was broken off it goes on, even if more wait, and then it has 64 octets before it can be broken off
- * again. READING.md, "Urgent and bulk", says how long a low packet can take at the most. It is lent the sender's two areas, low and high,
- * and a third, the line, in which the waiting packets stand; the same three at every call. Between calls nobody else writes to them. Its
- * state begins with the sender's: hand it to the calls below only. */
-
-/* Opens a dispatcher, as a receiver is opened. */
-uint32_t kuta_dispatcher_open(uint8_t state[KUTA_STATE], uint8_t settings, uint8_t width, uint16_t limit);
-
-/* Loads a packet into the low lane, as kuta_load_low does, with the same refusals. */
-uint32_t kuta_dispatcher_load_low(uint8_t state[KUTA_STATE], const uint8_t *packet, size_t packet_length, uint8_t *area, size_t area_length);
-
-/* Lets a packet wait in the line for the high lane, behind those that wait already. Answers KUTA_DONE: the packet is copied to the line, and
- * its octets are free again. Refused 2: the line has fewer than KUTA_LINE_AREA(limit) octets. Refused 3. Refused 22: eight wait already; go on
- * sending, and ask again. Refused 1. It is never refused 4. */
-uint32_t kuta_dispatcher_load_high(uint8_t state[KUTA_STATE], const uint8_t *packet, size_t packet_length, uint8_t *line, size_t line_length);
-
-/* The next octet to send. If the high lane is empty, the first that waits is put into it before. Answers KUTA_OCTET, KUTA_IDLE or
- * KUTA_REFUSED, and in the last two cases changes nothing. Of the areas it writes to high only.
- * Refused 2: low or high has fewer than KUTA_SENDER_AREA(width, limit) octets, or the line fewer than KUTA_LINE_AREA(limit). Refused 3. */
-uint32_t kuta_dispatcher_next(uint8_t state[KUTA_STATE], const uint8_t *low, size_t low_length, uint8_t *high, size_t high_length,
-                              const uint8_t *line, size_t line_length);
 
 /* ---- Plain PPP, sent
  *

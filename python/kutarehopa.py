@@ -29,27 +29,6 @@ A Receiver is fed a line as it comes, a Sender makes one. Here an urgent packet 
     Packet(octets=b'urgent', place=14)
     Packet(octets=b'123456789', place=25)
 
-A Dispatcher lets urgent packets wait in a line of eight, and lets the other one through all the same: after three of
-them it goes on, for 64 octets at least:
-
-    >>> dispatcher, receiver = kuta.Dispatcher(), kuta.Receiver()
-    >>> dispatcher.load(b"bulk" * 20)
-    >>> _ = receiver.feed(dispatcher.write(5))
-    >>> for n in range(5):
-    ...     dispatcher.wait(b"alarm %d" % n)
-    >>> dispatcher.waiting
-    5
-    >>> for report in receiver.feed(dispatcher.rest()):
-    ...     print(report.octets.decode() if isinstance(report, kuta.Packet) else report)
-    H 4 0
-    alarm 0
-    alarm 1
-    alarm 2
-    H 67 0
-    alarm 3
-    alarm 4
-    bulkbulkbulkbulkbulkbulkbulkbulkbulkbulkbulkbulkbulkbulkbulkbulkbulkbulkbulkbulk
-
 Both ends are opened with what the link agreed on: the settings; the width of the check sequence, 16 bits or 32; and
 the limit, the most octets of a packet, 2 to 16,384:
 
@@ -82,8 +61,8 @@ import threading
 from dataclasses import dataclass
 from typing import BinaryIO, Dict, Iterable, Iterator, List, NamedTuple, Optional, Union
 
-__all__ = ["ZXE", "PRE", "Report", "Packet", "Held", "Refused", "RefusedCall", "LaneBusy", "LineFull", "Receiver", "Sender",
-           "Dispatcher", "PlainSender", "Pair", "reports", "tally", "line", "pppfcs16", "pppfcs32"]
+__all__ = ["ZXE", "PRE", "Report", "Packet", "Held", "Refused", "RefusedCall", "LaneBusy", "Receiver", "Sender",
+           "PlainSender", "Pair", "reports", "tally", "line", "pppfcs16", "pppfcs32"]
 
 ZXE = 1  # settings: zero runs and pairs, the codes D3 to FE
 PRE = 2  # settings: a packet may be broken off for an urgent one, and resumed
@@ -107,10 +86,6 @@ def _declared(library):
             ("kuta_load_low", answer, octets, octets, length, octets, length),
             ("kuta_load_high", answer, octets, octets, length, octets, length),
             ("kuta_write_on", _Stretch, octets, octets, length, octets, length, octets, length),
-            ("kuta_dispatcher_open", answer, octets, octet, octet, limit),
-            ("kuta_dispatcher_load_low", answer, octets, octets, length, octets, length),
-            ("kuta_dispatcher_load_high", answer, octets, octets, length, octets, length),
-            ("kuta_dispatcher_next", answer, octets, octets, length, octets, length, octets, length),
             ("kuta_pair_open", answer, octets, octets, octet, octet, limit, control, octets),
             ("kuta_plain_send", answer, octets, octets, length, octets, length),
             ("pppfcs16", ctypes.c_uint16, ctypes.c_uint16, octets, length),
@@ -144,7 +119,7 @@ def _load():
 _library = _load()
 
 _STATE = 64
-_PACKET, _HELD, _REFUSED, _OCTET = 1, 2, 3, 5  # kinds of answers
+_PACKET, _HELD, _REFUSED = 1, 2, 3  # kinds of answers
 _OFF, _COBS, _PLAIN, _ESCAPED = range(4)  # a receiver's modes
 _PIECE = 65536  # how many octets of a capture are read at a time
 _LIMIT = 2048   # the most octets of a packet, where nothing else is told
@@ -208,7 +183,6 @@ _REASONS = {
     18: "the frame ends with an escape, which an octet must follow",
     19: "what is escaped must have all that is removed, and neither 5E nor any of 20 to 3F",
     21: "the rest of a packet came, and what was held of it has been changed meanwhile",
-    22: "eight packets wait already",
 }
 
 
@@ -269,7 +243,7 @@ class Refused(Report):
 
 
 class RefusedCall(Exception):
-    """A call was refused, and changed nothing: number, 1 to 4 or 22, and reason."""
+    """A call was refused, and changed nothing: number, 1 to 4, and reason."""
 
     def __init__(self, number, limit=_LIMIT):
         super().__init__(number)
@@ -283,29 +257,22 @@ class LaneBusy(RefusedCall):
     """A packet was to be loaded, and the lane's last one is not sent yet."""
 
 
-class LineFull(RefusedCall):
-    """A packet was to wait, and eight wait already."""
-
-
 def _refused(number, limit):
-    return {4: LaneBusy, 22: LineFull}.get(number, RefusedCall)(number, limit)
+    return LaneBusy(number, limit) if number == 4 else RefusedCall(number, limit)
 
 
 # ---- The two ends
 
 class _End:
-    """What both ends are: a state and areas in memory of their own. Copies, and ends pickled, go their own way."""
+    """What both ends are: a state and two areas in memory of their own. Copies, and ends pickled, go their own way."""
     _beyond: int  # how many octets an area has beyond those of the longest packet and its check sequence
-
-    def _lengths(self, width, limit):
-        """Of the areas, in octets."""
-        return (limit + width // 8 + self._beyond,) * 2
 
     def _own(self, opening, settings, width, limit, *reading):
         settings, limit, width = _number(settings, 0, 255, "settings"), _limit(limit), _width(width)
+        area = limit + width // 8 + self._beyond
         self._state = (ctypes.c_uint8 * _STATE)()
-        self._areas = tuple((ctypes.c_uint8 * length)() for length in self._lengths(width, limit))
-        self._lent = tuple(given for area in self._areas for given in (area, len(area)))
+        self._areas = (ctypes.c_uint8 * area)(), (ctypes.c_uint8 * area)()
+        self._lent = self._areas[0], area, self._areas[1], area
         self._place = 0
         self._lock = threading.Lock()  # a call of the library lets other threads run
         opening(self._state, settings, width, limit, *reading)
@@ -345,14 +312,12 @@ class _End:
             end = cls(width=width, limit=limit)
         except ValueError:
             raise RefusedCall(3, limit) from None
-        if len(saved) != _STATE + 8 + sum(map(len, end._areas)):
+        area = len(end._areas[0])
+        if len(saved) != _STATE + 8 + 2 * area:
             raise ValueError(f"no {cls.__name__} of width {width} and limit {limit} was saved as {len(saved)} octets")
         end._state[:] = saved[:_STATE]
         end._place = int.from_bytes(saved[_STATE:_STATE + 8], "little")
-        at = _STATE + 8
-        for area in end._areas:
-            area[:] = saved[at:at + len(area)]
-            at += len(area)
+        end._areas[0][:], end._areas[1][:] = saved[-2 * area:-area], saved[-area:]
         if end._probe() == _REFUSED << 24 | 3:
             raise RefusedCall(3, limit)
         return end
@@ -470,73 +435,6 @@ class Sender(_End):
     def _probe(self):
         """How the state answers a packet too short to be loaded."""
         return _library.kuta_load_low(self._state, None, 0, self._areas[0], len(self._areas[0]))
-
-
-class Dispatcher(_End):
-    """A sender with a line of waiting urgent packets above it, opened as a Sender is. Up to eight urgent packets wait,
-    and go out in the order in which they came. They break off the other packet, with PRE; but once three of them
-    closed since then it goes on, and has 64 octets before it can be broken off again."""
-
-    _beyond = 0
-    PLACES = 8
-
-    def _lengths(self, width, limit):
-        return super()._lengths(width, limit) + (self.PLACES * limit,)
-
-    def __init__(self, settings: int = ZXE | PRE, width: int = 16, limit: int = _LIMIT):
-        self._own(_library.kuta_dispatcher_open, settings, width, limit)
-
-    def __repr__(self):
-        return f"<Dispatcher, settings {self.settings}, width {self.width}, limit {self.limit}, " \
-               f"{self.waiting} waiting, {self._place} octets written>"
-
-    @property
-    def place(self) -> int:
-        """How many octets of the line were written."""
-        return self._place
-
-    @property
-    def waiting(self) -> int:
-        """How many urgent packets wait, beside one that is being sent."""
-        return self._state[19]
-
-    def load(self, packet) -> None:
-        """Loads a packet that is not urgent. LaneBusy: the last one must be written first. RefusedCall 1: its length."""
-        self._take(_library.kuta_dispatcher_load_low, packet, self._areas[0])
-
-    def wait(self, packet) -> None:
-        """Lets an urgent packet wait. LineFull: eight wait already; write() makes room. RefusedCall 1: its length."""
-        self._take(_library.kuta_dispatcher_load_high, packet, self._areas[2])
-
-    def _take(self, load, packet, area):
-        packet = _octets(packet, "a packet")
-        with self._lock:
-            answer = load(self._state, packet, len(packet), area, len(area))
-        if answer >> 24 == _REFUSED:
-            raise _refused(answer & 0xFFFF, self.limit)
-
-    def write(self, most: Optional[int] = None) -> bytes:
-        """The next octets of the line: up to and with the next flag, and no more than `most`. b"" if all is sent."""
-        room = sys.maxsize if most is None else _number(most, 1, sys.maxsize, "most")
-        octets = bytearray()
-        with self._lock:
-            while len(octets) < room and octets[-1:] != b"\x7e":
-                answer = _library.kuta_dispatcher_next(self._state, *self._lent)
-                if answer >> 24 == _REFUSED:
-                    raise _refused(answer & 0xFFFF, self.limit)
-                if answer >> 24 != _OCTET:
-                    break
-                octets.append(answer & 0xFF)
-            self._place += len(octets)
-        return bytes(octets)
-
-    def rest(self) -> bytes:
-        """All octets that the loaded and waiting packets still take."""
-        return b"".join(iter(self.write, b""))
-
-    def _probe(self):
-        """How the state answers a packet too short to be loaded."""
-        return _library.kuta_dispatcher_load_low(self._state, None, 0, self._areas[0], len(self._areas[0]))
 
 
 # ---- Plain PPP

@@ -21,7 +21,7 @@ import unittest
 import zlib
 
 import kutarehopa as kuta
-from kutarehopa import Dispatcher, Held, LaneBusy, LineFull, Packet, Pair, PlainSender, Receiver, Refused, RefusedCall, Sender
+from kutarehopa import Held, LaneBusy, Packet, Pair, PlainSender, Receiver, Refused, RefusedCall, Sender
 
 HERE = os.path.dirname(os.path.abspath(__file__))
 ROOT = os.path.dirname(HERE)
@@ -762,96 +762,6 @@ class PlainPPP(unittest.TestCase):
                 self.assertEqual(caught.exception.number, 3)
         pair = pickle.loads(pickle.dumps(Pair.open(plain=1, escaped=b"\0")))
         self.assertEqual((type(pair), pair.sender.escaped, pair.receiver.plain), (Pair, b"\0\x7d\x7e", 1))
-
-
-class Dispatching(unittest.TestCase):
-    """The line of urgent packets, by document 02's examples and its bound."""
-
-    URGENT = bytes.fromhex("05 41 42 EF 31 7E")
-
-    def under_load(self, packet, **opened):
-        """All octets of a packet under steady urgent load, and how many urgent packets closed from its first octet to its closing flag."""
-        dispatcher = Dispatcher(**opened)
-        dispatcher.load(packet)
-        octets = dispatcher.write(1)
-        while True:
-            while dispatcher.waiting < 8:
-                dispatcher.wait(b"AB")
-            octets += dispatcher.write(1)
-            if dispatcher.state[8:10] == bytes(2):  # the low lane is empty
-                return octets, octets.count(self.URGENT)
-
-    def test_after_three_it_goes_on(self):
-        octets, closed = self.under_load(b"11")
-        self.assertEqual((octets, closed), (b"\x05\x7e" + 3 * self.URGENT + bytes.fromhex("D1 05 31 31 37 80 7E"), 3))
-
-    def test_the_bound_is_met(self):
-        """At most 3 T, T the least whole number with 63 T at least n + 1 (n: packet and check sequence): met at n 202."""
-        octets, closed = self.under_load(b"1" * 200)
-        self.assertEqual((len(octets), closed), (288, 12))
-        for length in (*range(2, 30), 59, 60, 61, 62, 122, 123, 124, 125, 126, 187, 188, 250, 1000):
-            for packet, settings in itertools.product((b"1" * length, bytes(length), b"\x7e1\0" * length), (1, 2, 3)):
-                packet = packet[:length]
-                _, closed = self.under_load(packet, settings=settings)
-                self.assertLessEqual(closed, 3 * -(-(length + 3) // 63) if settings & 2 else 0)
-
-    def test_order_and_room(self):
-        for width, limit in itertools.product(WIDTHS, (2, 2048, 16384)):
-            dispatcher, receiver = Dispatcher(3, width, limit), Receiver(3, width, limit)
-            packets = [bytes((n, n)) for n in range(9)]
-            for packet in packets[:8]:
-                dispatcher.wait(packet)
-            for wrong in (packets[8], b"", bytes(limit + 1)):
-                with self.assertRaisesRegex(LineFull, "refusal 22"):
-                    dispatcher.wait(wrong)
-            self.assertEqual(dispatcher.waiting, 8)
-            octets = dispatcher.write(1)
-            self.assertEqual(dispatcher.waiting, 7)
-            dispatcher.wait(packets[8])
-            found = receiver.feed(octets + dispatcher.rest())
-            self.assertEqual([report.octets for report in found], packets)
-            self.assertEqual((dispatcher.write(), dispatcher.place), (b"", len(octets) + receiver.place - len(octets)))
-            with self.assertRaisesRegex(RefusedCall, f"2 to {limit:,} octets .refusal 1."):
-                dispatcher.wait(b"1")
-            dispatcher.load(b"ab")
-            with self.assertRaises(LaneBusy):
-                dispatcher.load(b"ab")
-
-    def test_saved(self):
-        for width, limit in itertools.product(WIDTHS, (2, 300)):
-            dispatcher = Dispatcher(3, width, limit)
-            dispatcher.load(longest(limit))
-            dispatcher.write(limit)
-            for n in range(5):
-                dispatcher.wait(longest(limit, bytes((n + 1,))))
-            dispatcher.write(3)
-            saved = dispatcher.save()
-            self.assertEqual(len(saved), 72 + 2 * (limit + width // 8) + 8 * limit)
-            others = [Dispatcher.restore(bytearray(saved)), copy.copy(dispatcher), pickle.loads(pickle.dumps(dispatcher))]
-            rest = dispatcher.rest()
-            for other in others:
-                self.assertEqual((other.width, other.limit), (width, limit))
-                self.assertEqual((other.rest(), other.save()), (rest, dispatcher.save()))
-            for at, octet in ((5, 3), (18, 8), (19, 9), (20, 4), (21, 65), (1, 24)):
-                with self.assertRaises(RefusedCall) as caught:
-                    Dispatcher.restore(saved[:at] + bytes((octet,)) + saved[at + 1:])
-                self.assertEqual(caught.exception.number, 3)
-            for wrong in (b"", saved[:-1], saved + b"\0", Sender(3, width, limit).save()):
-                with self.assertRaisesRegex(ValueError, f"no Dispatcher .*was saved as {len(wrong)} octets"):
-                    Dispatcher.restore(wrong)
-
-    def test_wrong_arguments(self):
-        for limit in WRONG_LIMITS:
-            with self.assertRaises(ValueError):
-                Dispatcher(limit=limit)
-        for width in (0, 8, 24, 64):
-            with self.assertRaises(ValueError):
-                Dispatcher(width=width)
-        for wrong in ("text", 5, None):
-            with self.assertRaises(TypeError):
-                Dispatcher().wait(wrong)
-        with self.assertRaises(ValueError):
-            Dispatcher().write(0)
 
 
 class Saving(unittest.TestCase):

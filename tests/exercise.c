@@ -8,29 +8,25 @@
 
 #define LENGTH(array) (sizeof(array) / sizeof(array)[0])
 
-/* ---- Both ends, the dispatcher and the plain sender, and the areas that they are lent */
+/* ---- Both ends and the plain sender, and the areas that they are lent */
 
-enum { END_AREA = 20480, OUT_AREA = 40960, LINE_AREA = 131072 };
-enum { LOW, HIGH, FIRST, SECOND, OUT, LINE };
+enum { END_AREA = 20480, OUT_AREA = 40960 };
+enum { LOW, HIGH, FIRST, SECOND, OUT };
 
 struct area {
     uint8_t *octets;
     size_t whole, lent;
 };
 
-static uint8_t sender[KUTA_STATE], receiver[KUTA_STATE], plain_sender[KUTA_STATE], dispatcher[KUTA_STATE];
-static uint8_t low[END_AREA], high[END_AREA], first[END_AREA], second[END_AREA], out[OUT_AREA], line[LINE_AREA];
+static uint8_t sender[KUTA_STATE], receiver[KUTA_STATE], plain_sender[KUTA_STATE];
+static uint8_t low[END_AREA], high[END_AREA], first[END_AREA], second[END_AREA], out[OUT_AREA];
 static struct area areas[] = {
     {low, END_AREA, KUTA_SENDER_AREA(KUTA_DEFAULT_WIDTH, KUTA_DEFAULT_LIMIT)},
     {high, END_AREA, KUTA_SENDER_AREA(KUTA_DEFAULT_WIDTH, KUTA_DEFAULT_LIMIT)},
     {first, END_AREA, KUTA_RECEIVER_AREA(KUTA_DEFAULT_WIDTH, KUTA_DEFAULT_LIMIT)},
     {second, END_AREA, KUTA_RECEIVER_AREA(KUTA_DEFAULT_WIDTH, KUTA_DEFAULT_LIMIT)},
     {out, OUT_AREA, KUTA_RECEIVER_AREA(KUTA_DEFAULT_WIDTH, KUTA_DEFAULT_LIMIT)},
-    {line, LINE_AREA, KUTA_LINE_AREA(KUTA_DEFAULT_LIMIT)},
 };
-
-/* The place that an operand `at` names: in the line it counts in steps of 16 octets. */
-static size_t place(unsigned area, unsigned at) { return area == LINE ? (size_t)16 * at : at; }
 
 static size_t least(size_t one, size_t other) { return one < other ? one : other; }
 
@@ -87,8 +83,7 @@ static void print_opening(uint32_t answer) {
 
 /* ---- States handed in and written, number by number */
 
-/* A number of `s`, `t` or `Q`: its place among the octets of the state, how many octets it has, and by what its remainder is taken; 0: a
- * number too large is the field's largest. */
+/* A number of `s` or `t`: its place among the octets of the state, how many octets it has, and by what its remainder is taken. */
 struct field {
     unsigned place, octets;
     unsigned long modulus;
@@ -109,14 +104,6 @@ static const struct field sender_fields[] = {
     {7, 1, 2},      /* cut due */
     {1, 1, 256},    /* width */
     {2, 2, 65536},  /* limit */
-};
-
-static const struct field line_fields[] = {
-    {18, 1, 0},                                                                                     /* first place */
-    {19, 1, 0},                                                                                     /* waiting */
-    {22, 2, 0}, {24, 2, 0}, {26, 2, 0}, {28, 2, 0}, {30, 2, 0}, {32, 2, 0}, {34, 2, 0}, {36, 2, 0}, /* eight lengths */
-    {20, 1, 0},                                                                                     /* closed */
-    {21, 1, 0},                                                                                     /* octets that low still has */
 };
 
 static const struct field receiver_fields[] = {
@@ -147,8 +134,7 @@ static void put_number(uint8_t *place, unsigned long number) {
 static unsigned long number_at(const uint8_t *place) { return place[0] + 256ul * place[1]; }
 
 static void put_field(uint8_t *state, struct field field, unsigned long given) {
-    const unsigned long largest = field.octets == 1 ? 255 : 65535;
-    const unsigned long number = field.modulus > 0 ? given % field.modulus : least(given, largest);
+    const unsigned long number = given % field.modulus;
     uint8_t *const place = state + field.place;
     if (field.octets == 1) {
         *place = (uint8_t)number;
@@ -168,25 +154,17 @@ static unsigned long field_of(const uint8_t *state, struct field field) {
 }
 
 /* What has no number here is written as an opening writes it: octet 0, and zeros. */
-static void put_fields(uint8_t *state, const struct field *fields, size_t count, const unsigned *numbers) {
+static void hand_in(uint8_t *state, const struct field *fields, size_t count, const unsigned *numbers) {
     size_t i;
+    memset(state, 0, KUTA_STATE);
+    state[0] = 1;
     for (i = 0; i < count; i++) put_field(state, fields[i], numbers[i]);
 }
 
-static void hand_in(uint8_t *state, const struct field *fields, size_t count, const unsigned *numbers) {
-    memset(state, 0, KUTA_STATE);
-    state[0] = 1;
-    put_fields(state, fields, count, numbers);
-}
-
-static void print_fields(const uint8_t *state, const struct field *fields, size_t count) {
-    size_t i;
-    for (i = 0; i < count; i++) printf(" %lu", field_of(state, fields[i]));
-}
-
 static void print_state(char letter, const uint8_t *state, const struct field *fields, size_t count) {
+    size_t i;
     putchar(letter);
-    print_fields(state, fields, count);
+    for (i = 0; i < count; i++) printf(" %lu", field_of(state, fields[i]));
     putchar('\n');
 }
 
@@ -195,7 +173,7 @@ static void print_state(char letter, const uint8_t *state, const struct field *f
 /* The operands of a command: its octet, number and long operands in their order, the octets of the one that is `octets n`, and those of
  * the one that is a sending map. */
 struct operands {
-    unsigned numbers[LENGTH(sender_fields) + LENGTH(line_fields)];
+    unsigned numbers[LENGTH(receiver_fields)];
     uint8_t octets[65535], marks[KUTA_MARKS];
     size_t length;
 };
@@ -233,24 +211,6 @@ static void receive(const struct operands *given) {
         print_answer(kuta_receive(receiver, given->octets[i], first, areas[FIRST].lent, second, areas[SECOND].lent));
 }
 
-static void open_dispatcher(const struct operands *given) {
-    print_opening(kuta_dispatcher_open(dispatcher, (uint8_t)given->numbers[0], (uint8_t)given->numbers[1], (uint16_t)given->numbers[2]));
-}
-
-static void dispatch_low(const struct operands *given) {
-    print_answer(kuta_dispatcher_load_low(dispatcher, given->octets, given->length, low, areas[LOW].lent));
-}
-
-static void dispatch_high(const struct operands *given) {
-    print_answer(kuta_dispatcher_load_high(dispatcher, given->octets, given->length, line, areas[LINE].lent));
-}
-
-static void dispatch(const struct operands *given) {
-    unsigned i;
-    for (i = 0; i < given->numbers[0]; i++)
-        print_answer(kuta_dispatcher_next(dispatcher, low, areas[LOW].lent, high, areas[HIGH].lent, line, areas[LINE].lent));
-}
-
 static void send_plain(const struct operands *given) {
     print_answer(kuta_plain_send(plain_sender, given->octets, given->length, out, areas[OUT].lent));
 }
@@ -262,11 +222,8 @@ static void lend(const struct operands *given) {
 
 static void lend_out(const struct operands *given) { areas[OUT].lent = least(given->numbers[0], areas[OUT].whole); }
 
-static void lend_line(const struct operands *given) { areas[LINE].lent = least(given->numbers[0], areas[LINE].whole); }
-
 static void fill(const struct operands *given) {
-    const unsigned area = given->numbers[0];
-    const size_t at = place(area, given->numbers[1]);
+    const unsigned area = given->numbers[0], at = given->numbers[1];
     size_t count;
     if (area >= LENGTH(areas)) return;
     count = within(&areas[area], at, given->length);
@@ -277,25 +234,12 @@ static void show(const struct operands *given) {
     static const struct area none = {NULL, 0, 0};
     const unsigned area = given->numbers[0];
     putchar('X');
-    print_part(area < LENGTH(areas) ? &areas[area] : &none, place(area, given->numbers[1]), given->numbers[2]);
+    print_part(area < LENGTH(areas) ? &areas[area] : &none, given->numbers[1], given->numbers[2]);
 }
 
 static void hand_sender(const struct operands *given) { hand_in(sender, sender_fields, LENGTH(sender_fields), given->numbers); }
 
 static void hand_receiver(const struct operands *given) { hand_in(receiver, receiver_fields, LENGTH(receiver_fields), given->numbers); }
-
-static void hand_dispatcher(const struct operands *given) {
-    hand_in(dispatcher, sender_fields, LENGTH(sender_fields), given->numbers);
-    put_fields(dispatcher, line_fields, LENGTH(line_fields), given->numbers + LENGTH(sender_fields));
-}
-
-static void show_dispatcher(const struct operands *given) {
-    (void)given;
-    putchar('K');
-    print_fields(dispatcher, sender_fields, LENGTH(sender_fields));
-    print_fields(dispatcher, line_fields, LENGTH(line_fields));
-    putchar('\n');
-}
 
 static void hand_plain_sender(const struct operands *given) {
     memset(plain_sender, 0, KUTA_STATE);
@@ -335,13 +279,6 @@ static const struct command commands[] = {
     {'p', "1124m", open_pair},
     {'P', "12m", hand_plain_sender},
     {'w', "n", send_plain},
-    {'q', "112", open_dispatcher},
-    {'Q', "222222222222222222222222", hand_dispatcher},
-    {'L', "4", lend_line},
-    {'g', "n", dispatch_low},
-    {'j', "n", dispatch_high},
-    {'k', "2", dispatch},
-    {'K', "", show_dispatcher},
 };
 
 /* ---- Input: each reader answers whether the input had all of what was to be read */
@@ -422,7 +359,6 @@ int main(void) {
     setvbuf(stdin, input, _IOFBF, sizeof input);
     setvbuf(stdout, output, _IOFBF, sizeof output);
     kuta_sender_open(sender, 0, KUTA_DEFAULT_WIDTH, KUTA_DEFAULT_LIMIT);
-    kuta_dispatcher_open(dispatcher, 0, KUTA_DEFAULT_WIDTH, KUTA_DEFAULT_LIMIT);
     kuta_pair_open(plain_sender, receiver, 0, KUTA_DEFAULT_WIDTH, KUTA_DEFAULT_LIMIT, 0, no_marks);
     kuta_receiver_open(receiver, 0, KUTA_DEFAULT_WIDTH, KUTA_DEFAULT_LIMIT, KUTA_PLAIN_OFF, 0);
     while (carry_out_next() && !ferror(stdout)) {

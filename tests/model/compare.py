@@ -1,7 +1,7 @@
 #!/usr/bin/env python3
 """Holds three programs of another team against the model (model.rs).
 
-    python3 compare.py --ours DIR [--octets N] [--calls N] [--dispatcher-calls N] [--only-dispatcher] [--seed S] [--save DIR]
+    python3 compare.py --ours DIR [--octets N] [--calls N] [--seed S] [--save DIR]
 
 DIR/capture, DIR/count and DIR/exercise read standard input and write standard output; the output of
 each must be that of `model capture|count|exercise`, octet for octet, on random inputs made here.
@@ -9,11 +9,9 @@ Exits 0 when nothing differs, 1 at the first difference (input and both outputs 
 run of full size did not see every answer of every call, at 16 bits and at 32, with limits of 2 to 20,
 2,048 and 16,384, what a wrong width and a limit out of range are answered, restarts with something
 held, registers of what is held that are right, wrong and out of bounds, areas changed before a D1,
-plain PPP read, sent and out of bounds, pairs opened and refused, the dispatcher at and beyond each of
-its bounds, low packets of it suspended, resumed while high ones wait and broken off behind their 64
-octets, and every area shown inside, to its end and beyond it; 2 when a program is missing. All three
-programs must end with status 0, also after `E`. With --only-dispatcher nothing but the dispatcher's
-scripts is compared, and asked for.
+plain PPP read, sent and out of bounds, pairs opened and refused, and every area shown inside, to its
+end and beyond it; 2 when a program is missing. All three programs must end with status 0, also after
+`E`.
 """
 import argparse
 import collections
@@ -28,7 +26,6 @@ import tempfile
 HERE = os.path.dirname(os.path.abspath(__file__))
 DEFAULT_OCTETS = 10_000_000
 DEFAULT_CALLS = 3_000_000
-DEFAULT_DISPATCHER_CALLS = 800_000
 TIME_LIMIT = 300
 
 FLAG = b"\x7e"
@@ -98,10 +95,8 @@ def build_model(folder):
 # Commands of docs/EXERCISE.md
 # ------------------------------------------------------------------------------------------------
 
-COMMANDS = b"oOlhnraAfstdxpPwqQLgjkK"
-WHOLE_AREAS = (20480, 20480, 20480, 20480, 40960, 131072)  # low, high, first, second, out, line
-LINE_AREA = 5
-PLACES_IN_LINE = 8
+COMMANDS = b"oOlhnraAfstdxpPw"
+WHOLE_AREAS = (20480, 20480, 20480, 20480, 40960)  # low, high, first, second, out
 WIDTHS = (16, 32)
 LIMITS = range(2, 16385)
 
@@ -137,11 +132,6 @@ class Agreed(collections.namedtuple("Agreed", "width limit")):
     def start(self):
         """The register's start value, and its largest; for a wrong width that of 16 bits, since nothing asks."""
         return 2 ** 32 - 1 if self.width % 256 == 32 else 2 ** 16 - 1
-
-    @property
-    def line(self):
-        """Length of the line area that is exactly long enough."""
-        return PLACES_IN_LINE * self.limit
 
     def with_other_width(self):
         return self._replace(width=48 - self.width)
@@ -236,41 +226,7 @@ def show(area, at, count):
     return b"x" + bytes((area,)) + number(at) + number(count)
 
 
-def step_of(area):
-    """So many octets are one step of the operand `at`."""
-    return 16 if area == LINE_AREA else 1
-
-
 SHOW_STATES = b"d"
-
-
-def open_dispatcher(settings, width=START.width, limit=START.limit):
-    return b"q" + bytes((settings, width)) + number(limit)
-
-
-def hand_dispatcher(numbers):
-    """Its twenty-four numbers."""
-    return b"Q" + b"".join(map(number, numbers))
-
-
-def lend_line(length):
-    return b"L" + long(length)
-
-
-def dispatch_low(packet):
-    return b"g" + octets(packet)
-
-
-def dispatch_high(packet):
-    return b"j" + octets(packet)
-
-
-def dispatched(count):
-    """So many next-octet calls of the dispatcher."""
-    return b"k" + number(count)
-
-
-SHOW_DISPATCHER = b"K"
 
 
 def bit_by_bit(register, polynomial):
@@ -775,7 +731,6 @@ class Seen:
 
     def __init__(self):
         self.octets = self.captures = self.scripts = self.calls = 0
-        self.dispatched = collections.Counter()  # the dispatcher's calls, which are among the calls
         self.reports = collections.Counter()
         self.answers = collections.Counter()
 
@@ -808,8 +763,8 @@ SMALL = range(2, 21)  # limits whose edges cost few octets
 WIDTH, LIMIT, REGISTER, MODE = 10, 11, 12, 14  # places among a state's numbers; of a receiver's the last two are its map
 OFF, COBS, PLAIN, ESCAPED = range(4)  # modes
 REMEMBERED_GOOD = (*range(5, 11), 21)  # refusals that may be remembered
-PLACES = (0, 1, 1023, 1024, 2040, 2051, 4095, 4096, 8190, 8191, 8192, 8193, 16380, 16389, 20470, 20478, 20479, 20480, 20481, 40950,
-          40958, 40959, 40960, 40961, 65534, 65535)
+PLACES = (0, 1, 2040, 2051, 4095, 4096, 16380, 16389, 20470, 20478, 20479, 20480, 20481, 40950, 40958, 40959, 40960, 40961,
+          65534, 65535)
 
 
 def within(least, value, most):
@@ -894,10 +849,9 @@ def opening_agreed(rng, agreed):
 
 def lane_numbers(rng, agreed):
     least, most = agreed.shortest, agreed.longest
-    length = rng.choice((0, 0, least, least + 1, 30, 33, 209, 210, most - 1, most, rng.randint(least, most)))
+    length = min(most, rng.choice((0, 0, least, least + 1, 30, 33, 209, 210, most - 1, most, rng.randint(least, most))))
     if length == 0:
         return 0, rng.choice((0, 0, 0, 1))
-    length = within(least, length, most)
     return length, rng.choice((0, 0, 1, length - 1, length, length + 1, rng.randint(0, length + 1)))
 
 
@@ -1054,8 +1008,8 @@ def area_number(rng):
     """One that is there most often; any octet."""
     kind = rng.random()
     if kind < 0.6:
-        return rng.randrange(6)
-    return rng.choice((6, 7, 8, 127, 128, 252, 253, 254, 255)) if kind < 0.8 else rng.randrange(256)
+        return rng.randrange(5)
+    return rng.choice((5, 6, 7, 8, 127, 128, 252, 253, 254, 255)) if kind < 0.8 else rng.randrange(256)
 
 
 def area_octets(rng, agreed):
@@ -1121,12 +1075,7 @@ def line_octets(rng, agreed, mode=OFF):
 def octets_shown(area, at, count):
     """How many octets a show writes."""
     whole = WHOLE_AREAS[area] if area < len(WHOLE_AREAS) else 0
-    return max(0, min(count, whole - at * step_of(area)))
-
-
-def last_places(area):
-    """An `at` a few octets before an area's end."""
-    return WHOLE_AREAS[area] // step_of(area) - (1 if area == LINE_AREA else 4)
+    return max(0, min(count, whole - at))
 
 
 def limit_words(limit):
@@ -1172,28 +1121,6 @@ TOLD = {**dict.fromkeys(NOT_FRESH.values(), "R 3"), OUTSIDE: "R 3", FIVE_ON: "R 
         OF_NO_OCTETS: "R 21", NO_PRE: "R 6"}
 
 
-# The same about the dispatcher: states handed in with one number at its edge or beyond it, all else being in bounds, and what a
-# high load of two octets is then answered. What is beyond is refused 3 by its other calls too.
-AT_EDGE = {"first place 7": "D", "8 waiting": "R 22", "3 closed": "D", "64 octets left": "D", "shortest and longest waiting": "D",
-           "a length out of range where none waits": "D"}
-BEYOND_EDGE = ("first place 8", "9 waiting", "4 closed", "65 octets left", "a waiting length of 1",
-               "a waiting length of one too many")
-# High loads in a row from fresh, and the line area exactly long enough and one octet shorter.
-NINTH, BAD_LENGTH, ROOM = "the ninth waiting", "a bad length, eight waiting", "the ninth, after an octet was sent"
-EXACT, ONE_SHORT, HOLDS = "line exactly long enough", "line one octet short", "a second low packet"
-LINE_TOLD = [*(("high load", what, answer) for what, answer in AT_EDGE.items()),
-             *((call, what, "R 3") for what in BEYOND_EDGE for call in ("low load", "high load", "dispatched octet")),
-             ("high load", NINTH, "R 22"), ("high load", BAD_LENGTH, "R 22"), ("high load", ROOM, "D"), ("low load", HOLDS, "R 4")]
-LENT_TOLD = [("high load", EXACT, "D"), ("high load", ONE_SHORT, "R 2"), ("dispatched octet", ONE_SHORT, "R 2")]
-# What happened between two states shown, with one next-octet call between them.
-SUSPENDED, BY_02 = "suspended inside a block", "02 sent, a cut due"
-RESUMED, RESUMED_MORE = "resumed with no more waiting", "resumed with more waiting, after three closed"
-USED_UP, USED_UP_02 = "broken off right behind the 64 octets, inside a block", "broken off right behind them, by 02"
-EVENTS = (SUSPENDED, BY_02, RESUMED, RESUMED_MORE)
-LATE_EVENTS = (USED_UP, USED_UP_02)  # only where a frame may be long enough
-FIRST_PLACE, WAITING, PLACE_LENGTHS, CLOSED, GRACE = 12, 13, 14, 22, 23  # among a dispatcher's numbers
-
-
 class Script:
     """A script and what each of its commands is, so that its output can be told apart. Of both ends it knows width and
     limit, and of the areas how much is lent, so that an answer can be counted by these."""
@@ -1201,8 +1128,8 @@ class Script:
     def __init__(self):
         self.parts = []
         self.kinds = []
-        self.ends = {"sender": START, "receiver": START, "plain sender": START, "dispatcher": START}
-        self.lengths, self.out, self.line = START.areas, 2051, START.line
+        self.ends = {"sender": START, "receiver": START, "plain sender": START}
+        self.lengths, self.out = START.areas, 2051
         self.marked = b""  # by the plain sender, beside 7D and 7E; None where a state was handed in that is out of bounds
 
     def add(self, command, kind=None, calls=0, about=None):
@@ -1230,7 +1157,7 @@ class Script:
         """A refused opening leaves the end as it was. A receiver may be told to read plain, and its map."""
         if agreed.good:
             self.ends[end] = agreed
-        command = {"sender": open_sender, "receiver": open_receiver, "dispatcher": open_dispatcher}[end]
+        command = open_sender if end == "sender" else open_receiver
         self.add(command(settings, *agreed, *reading), f"open {end}", 1, words(agreed))
 
     def pair(self, settings, agreed, control, marked, why=None):
@@ -1264,8 +1191,7 @@ class Script:
 
     def hand(self, end, numbers):
         self.ends[end] = Agreed(numbers[WIDTH] % 256, numbers[LIMIT])
-        command = {"sender": hand_sender, "receiver": hand_receiver, "dispatcher": hand_dispatcher}[end]
-        self.add(command(numbers))
+        self.add((hand_sender if end == "sender" else hand_receiver)(numbers))
 
     def lend(self, lengths):
         self.lengths = lengths
@@ -1277,38 +1203,6 @@ class Script:
     def next(self, count):
         count = min(count, 9) if self.refused("sender", (0, 1)) else count
         self.add(next_octets(count), "next octet", count, self.at("sender", (0, 1)))
-
-    def lend_line(self, length):
-        self.line = min(length, WHOLE_AREAS[LINE_AREA])
-        self.add(lend_line(length))
-
-    def line_short(self):
-        """Whether the line area is too short; of a limit out of range for any packet."""
-        agreed = self.ends["dispatcher"]
-        return self.line < (agreed if agreed.limit in LIMITS else agreed._replace(limit=2)).line
-
-    def low(self, data, what=None):
-        self.dispatch("low load", dispatch_low(data), 1, self.at("dispatcher", (0,)), what)
-
-    def high(self, data, what=None):
-        agreed = self.ends["dispatcher"]
-        self.dispatch("high load", dispatch_high(data), 1, words(agreed)
-                      + ", short area" * (not agreed.good and self.line_short()), what)
-
-    def dispatched(self, count, what=None):
-        agreed = self.ends["dispatcher"]
-        about = self.at("dispatcher", (0, 1))
-        if not agreed.good and self.line_short() and not about.endswith("short area"):
-            about += ", short area"
-        count = min(count, 9) if self.refused("dispatcher", (0, 1)) or self.line_short() else count
-        self.dispatch("dispatched octet", dispatched(count), count, about, what)
-
-    def dispatch(self, kind, command, calls, about, what):
-        """`what` says why the answer is known."""
-        self.add(command, kind, calls, f"{words(self.ends['dispatcher'])}, {what}" if what else about)
-
-    def dispatcher(self):
-        self.add(SHOW_DISPATCHER, "dispatcher")
 
     def states(self):
         self.add(SHOW_STATES, "states")
@@ -1771,10 +1665,10 @@ def add_fills(rng, script, _agreed):
             length = rng.choice((20480, 20481, 40960, 40961, 65535))
         script.add(fill(area, at, rng.randbytes(length)))
         script.show(area, max(0, at - 3), rng.choice((8, 40, 2100)))
-        script.show(area, min(65535, max(0, at + length // step_of(area) - 3)), 8 if area != LINE_AREA else 60)
+        script.show(area, min(65535, max(0, at + length - 3)), 8)
         other = rng.randrange(len(WHOLE_AREAS))
         script.show(other, 0, 4)
-        script.show(other, last_places(other), 9 if other != LINE_AREA else 20)
+        script.show(other, WHOLE_AREAS[other] - 4, 9)
 
 
 def wrong_agreed(rng, agreed):
@@ -1800,296 +1694,13 @@ def add_wrong(rng, script, agreed):
     script.lend(before)
 
 
-# --- The dispatcher
-
-def line_numbers(rng, agreed, waiting=None):
-    """The dispatcher's own twelve numbers, in bounds; so many waiting, or any."""
-    limit, first = agreed.limit, rng.choice((0, 7, rng.randrange(8)))
-    waiting = rng.choice((0, 0, 1, 2, 7, 8, rng.randrange(9))) if waiting is None else waiting
-    lengths = [rng.choice((0, 0, 0, 0, 1, 2, limit, limit + 1, 65535)) for _ in range(PLACES_IN_LINE)]
-    for n in range(waiting):
-        lengths[(first + n) % PLACES_IN_LINE] = rng.choice((2, 2, 3, limit, rng.randint(2, limit))) if limit > 2 else 2
-    return [first, waiting, *lengths, rng.choice((0, 0, 1, 2, 3, 3)), rng.choice((0, 0, 0, 1, 2, 63, 64, rng.randint(0, 64)))]
-
-
-def dispatcher_state(rng, agreed, waiting=None):
-    """The twenty-four numbers of a dispatcher in bounds."""
-    return [*sender_state(rng, agreed), *line_numbers(rng, agreed, waiting)]
-
-
-def disturbed_line(rng, state):
-    """The sender's part disturbed, or one or two of the other numbers put to an edge."""
-    if rng.random() < 0.4:
-        return [*disturbed(rng, state[:FIRST_PLACE]), *state[FIRST_PLACE:]]
-    state = list(state)
-    for _ in range(rng.choice((1, 1, 2))):
-        at = rng.randrange(FIRST_PLACE, len(state))
-        around = {FIRST_PLACE: 7, WAITING: 8, CLOSED: 3, GRACE: 64}.get(at, state[LIMIT])
-        state[at] = rng.choice((around - 1, around, around + 1, within(0, around + rng.choice((-2, 2)), 65535), 0, 1, 2, 255, 256,
-                                65535))
-    return state
-
-
-def lend_for_line(script, agreed):
-    """Lends other areas where the dispatcher's are too short."""
-    if any(have < want for have, want in zip(script.lengths[:2], agreed.areas[:2])):
-        script.lend(agreed.areas)
-    if script.line < agreed.line:
-        script.lend_line(agreed.line)
-
-
-def fill_line(rng, script, agreed):
-    """Octets into the line area, about some place."""
-    at = agreed.limit * rng.randrange(PLACES_IN_LINE) // step_of(LINE_AREA)
-    script.add(fill(LINE_AREA, at, packet(rng, min(agreed.limit, rng.choice((4, 40, 300))))))
-
-
-def show_line(rng, script, agreed):
-    """Some place, with what stands before and behind; the end now and then."""
-    at = agreed.limit * rng.randrange(PLACES_IN_LINE) // step_of(LINE_AREA)
-    script.show(LINE_AREA, rng.choice((0, at, at, at, 8191, 8192, 4096)), rng.choice((0, 17, 40, 40)))
-
-
-def any_high(rng, agreed):
-    """A packet for the line: short, longest, or of a bad length."""
-    limit = agreed.limit if agreed.limit in LIMITS else 20
-    longest = min(limit, 40) if limit > 300 and rng.random() < 0.9 else limit
-    return packet(rng, rng.choice((2, 2, 2, 3, 4, rng.randint(2, longest), longest, 0, 1, limit + 1) if rng.random() < 0.4 else
-                                  (2, min(limit, 3))))
-
-
-def add_dispatcher_calls(rng, script, agreed):
-    """Loads and next-octet calls in any order, with the state shown in between."""
-    for _ in range(rng.choice((1, 3, 9))):
-        kind = rng.random()
-        if kind < 0.3:
-            for _ in range(rng.choice((1, 1, 2, 9))):
-                script.high(any_high(rng, agreed))
-        elif kind < 0.45:
-            limit = agreed.limit if agreed.limit in LIMITS else 20
-            script.low(octets_of(rng, rng.choice((0, 1, 2, 2, limit, limit + 1, rng.randint(2, min(limit, 300))))))
-        elif kind < 0.9:
-            for _ in range(rng.choice((1, 1, 4))):
-                script.dispatcher()
-                script.dispatched(1)
-            script.dispatcher()
-        else:
-            script.dispatched(rng.choice((0, 1, 7, 70, rng.randint(1, 300))))
-        if rng.random() < 0.3:
-            script.dispatcher()
-        if rng.random() < 0.1:
-            show_line(rng, script, agreed)
-        if rng.random() < 0.1:
-            show_some(rng, script, rng.randrange(2), rng.choice((4, agreed.longest)))
-
-
-def add_dispatcher_state(rng, script, agreed):
-    """A dispatcher handed in: in bounds, or disturbed."""
-    agreed = other_agreed(rng, agreed)
-    state = dispatcher_state(rng, agreed)
-    script.hand("dispatcher", disturbed_line(rng, state) if rng.random() < 0.5 else state)
-    if rng.random() < 0.4:
-        fill_line(rng, script, agreed)
-    if rng.random() < 0.3:
-        script.add(fill(rng.randrange(2), rng.choice((0, 0, 0, 3)), area_octets(rng, agreed)))
-    add_dispatcher_calls(rng, script, agreed)
-
-
-def at_edge(rng, state, what):
-    """The state with one number at its edge, which is named."""
-    first, waiting, limit = state[FIRST_PLACE], state[WAITING], state[LIMIT]
-    places = [PLACE_LENGTHS + (first + n) % PLACES_IN_LINE for n in range(PLACES_IN_LINE)]
-    if what.startswith("first place"):
-        offset = 7 - first  # the places that wait go along
-        state[PLACE_LENGTHS:CLOSED] = [state[PLACE_LENGTHS + (n - offset) % PLACES_IN_LINE] for n in range(PLACES_IN_LINE)]
-        state[FIRST_PLACE] = int(what.split()[-1])
-    elif what in ("8 waiting", "9 waiting"):
-        state[PLACE_LENGTHS:CLOSED] = [2] * PLACES_IN_LINE
-        state[WAITING] = int(what.split()[0])
-    elif what.endswith("closed"):
-        state[CLOSED] = int(what.split()[0])
-    elif what.endswith("octets left"):
-        state[GRACE] = int(what.split()[0])
-    elif what.startswith("shortest"):
-        state[places[0]], state[places[waiting - 1]] = rng.choice(((2, limit), (limit, 2)))
-    elif what == "a length out of range where none waits":
-        state[rng.choice(places[waiting:])] = rng.choice((0, 1, limit + 1, 65535))
-    else:
-        state[rng.choice(places[:waiting])] = 1 if what.endswith("of 1") else limit + 1
-    return state
-
-
-def add_edge_of_line(rng, script, agreed):
-    """A dispatcher that is at the edge of one bound, or beyond it, and in bounds in all else."""
-    lend_for_line(script, agreed)
-    what = rng.choice((*AT_EDGE, *BEYOND_EDGE))
-    state = at_edge(rng, dispatcher_state(rng, agreed, rng.randint(1, 7)), what)
-    script.hand("dispatcher", state)
-    if what in BEYOND_EDGE:
-        script.low(packet(rng, rng.choice((0, 1, 2))), what)
-        script.dispatched(1, what)
-        script.high(packet(rng, rng.choice((0, 1, 2))), what)
-    else:
-        script.high(b"AB", what)
-    script.dispatcher()
-    add_dispatcher_calls(rng, script, agreed)
-
-
-def add_nine(rng, script, agreed):
-    """High loads from fresh until the line is full, and one more; then there is room again behind the first octet sent."""
-    lend_for_line(script, agreed)
-    script.open("dispatcher", settings(rng), agreed)
-    if rng.random() < 0.5:
-        script.low(octets_of(rng, min(agreed.limit, 9)))
-        script.low(octets_of(rng, rng.choice((1, 2))), HOLDS)
-        script.dispatched(rng.choice((0, 1, 2)))
-    for _ in range(PLACES_IN_LINE):
-        script.high(packet(rng, rng.choice((2, min(agreed.limit, 9)))))
-    script.high(b"AB", NINTH)
-    script.high(rng.choice((b"", b"A", b"A" * (agreed.limit + 1))) if agreed.limit < 3000 else b"A", BAD_LENGTH)
-    script.dispatcher()
-    script.dispatched(1)
-    script.high(b"AB", ROOM)
-    script.high(b"AB", NINTH)
-    script.dispatcher()
-    show_line(rng, script, agreed)
-    script.dispatched(rng.choice((3, 30, 90)))
-
-
-def add_line_lengths(rng, script, agreed):
-    """The line area just long enough, and one octet shorter; seldom another length, or other areas short."""
-    script.lend(agreed.areas)
-    script.hand("dispatcher", dispatcher_state(rng, agreed, rng.randint(0, 7)))
-    for what, length in ((ONE_SHORT, agreed.line - 1), (EXACT, agreed.line)):
-        script.lend_line(length)
-        script.high(b"AB", what)
-        if what == ONE_SHORT:
-            script.high(b"A", what)
-            script.dispatched(1, what)
-            script.low(b"AB")
-        script.dispatcher()
-    if rng.random() < 0.3:
-        script.lend_line(rng.choice((0, 1, 15, 16, agreed.line - 8, agreed.line + 1, 65535, 65536, 131071, 131072, 131073,
-                                     2 ** 32 - 1)))
-        script.lend(area_lengths(rng, agreed))
-        add_dispatcher_calls(rng, script, agreed)
-        script.lend(agreed.areas)
-        script.lend_line(agreed.line)
-
-
-def add_dispatcher_session(rng, script, agreed):
-    """An opening, good or refused, and calls."""
-    script.open("dispatcher", settings(rng), opening_agreed(rng, agreed))
-    script.dispatcher()
-    for _ in range(rng.choice((1, 2))):
-        add_dispatcher_calls(rng, script, agreed)
-
-
-def add_dispatcher_wrong(rng, script, agreed):
-    """A wrong width or limit, with areas too short or not."""
-    before, line = script.lengths, script.line
-    script.lend([rng.choice((0, 1, 3, 4, agreed.longest)) for _ in range(4)] if rng.random() < 0.5 else [20480] * 4)
-    script.lend_line(rng.choice((0, 1, 15, 16, agreed.line, 131072)))
-    script.open("dispatcher", settings(rng), wrong_agreed(rng, agreed))
-    script.open("dispatcher", settings(rng), wrong_agreed(rng, agreed))
-    (width, limit), state = wrong_agreed(rng, agreed), disturbed_line(rng, dispatcher_state(rng, agreed))
-    state[WIDTH], state[LIMIT] = width + 256 * rng.choice((0, 0, 1, 255)), limit
-    script.hand("dispatcher", state)
-    script.low(packet(rng, rng.choice((0, 1, 2, 20))))
-    script.high(packet(rng, rng.choice((0, 1, 2, 20))))
-    script.dispatched(rng.randint(1, 3))
-    script.dispatcher()
-    script.lend(before)
-    script.lend_line(line)
-
-
-def add_line_fills(rng, script, _agreed):
-    """Octets put into the line area and shown: at its ends, beyond them, and at what a number reaches in other areas."""
-    for _ in range(rng.choice((1, 2, 5))):
-        at = rng.choice((0, 1, 7, 8, 4095, 4096, 8189, 8190, 8191, 8191, 8192, 8193, 65535, rng.randrange(8192),
-                         rng.randrange(65536)))
-        length = rng.choice((0, 1, 2, 15, 16, 17, 33, 300))
-        script.add(fill(LINE_AREA, at, rng.randbytes(length)))
-        script.show(LINE_AREA, max(0, at - 1), rng.choice((17, 40, 70)))
-        script.show(LINE_AREA, 8191, rng.choice((0, 1, 15, 16, 17, 65535)))
-        script.show(LINE_AREA, 0, 4)
-        script.show(rng.randrange(5), 0, 4)
-
-
-URGENT_LENGTHS = (60, 61, 62, 63, 123, 124, 125, 126, 186, 187, 200, 250, 300)  # of low packets: about what 64 octets cover
-
-
-def urgent_low(rng, agreed):
-    """A low packet for a steady urgent load."""
-    limit = agreed.limit
-    length = min(limit, rng.choice((*URGENT_LENGTHS, rng.randint(2, 300), 2048 if rng.random() < 0.2 else 200)))
-    return rng.choice((b"1" * length, b"1" * length, bytes(length), FLAG * length, rng.randbytes(length), zero_heavy(rng, length),
-                       ((b"1" * 15 + b"\0") * length)[:length], ((b"1" * 31 + b"\0") * length)[:length]))
-
-
-def add_urgent(rng, script, agreed):
-    """A steady urgent load: a low packet is loaded and begun, and then the line of waiting high packets is kept full, or nearly,
-    until it is closed and longer. Either every call is watched, or they come in stretches."""
-    lend_for_line(script, agreed)
-    script.open("dispatcher", rng.choice((2, 3, 3, 3, 0xFE, 0xFF, 1, 0)), agreed)
-    low, watched, w = urgent_low(rng, agreed), rng.random() < 0.4, agreed.width // 8
-    script.low(low)
-    script.dispatched(rng.choice((0, 1, 1, 1, 1, 2, 3, len(low))))
-    size = min(agreed.limit, rng.choice((2, 2, 2, 3, 9)))
-    each, keep = size + w + 2, rng.choice((8, 8, 8, 4, 1))  # octets of a high packet on the line; how many are kept waiting
-    for _ in range(keep):
-        script.high(packet(rng, size))
-    suspensions = (len(low) + w) // 63 + 1
-    left = int((len(low) * 1.1 + 4 * suspensions + 3 * suspensions * each) * rng.choice((0.5, 1.05, 1.05, 1.3)))
-    while left > 0:
-        count = 1 if watched else min(left, rng.choice((1, each - 1, each, each * min(keep, 4))))
-        left -= count
-        if watched:
-            script.dispatcher()
-        script.dispatched(count)
-        if rng.random() < count / each + 0.05:
-            for _ in range(1 + count // each):
-                script.high(packet(rng, size))
-        if rng.random() < 0.02:
-            script.low(urgent_low(rng, agreed))
-    if rng.random() < 0.3:  # the load ends: what waits is sent, and low goes on
-        for _ in range(each * keep if watched else 0):
-            script.dispatcher()
-            script.dispatched(1)
-        script.dispatched(rng.choice((each, 9 * each + len(low))))
-    script.dispatcher()
-
-
-# The dispatcher's steps, and how often each is taken.
-DISPATCHER_STEPS = [*zip(*(
-    (add_urgent, 30), (add_dispatcher_state, 16), (add_edge_of_line, 16), (add_nine, 5), (add_line_lengths, 5),
-    (add_dispatcher_session, 12), (add_dispatcher_wrong, 9), (add_line_fills, 3)))]
-
-
-def add_dispatched(rng, script, agreed):
-    """One of the dispatcher's steps amid those of the ends, whose areas low and high it is lent too."""
-    rng.choices(*DISPATCHER_STEPS)[0](rng, script, agreed)
-
-
-def dispatcher_script(rng):
-    """The dispatcher's steps alone."""
-    script, agreed = Script(), START
-    for step in range(rng.choice((1, 5, 20))):
-        if rng.random() < (0.5 if step else 0.9):
-            agreed = some_agreed(rng)
-            script.lend(agreed.areas if rng.random() < 0.9 else area_lengths(rng, agreed))
-            script.lend_line(agreed.line if rng.random() < 0.9 else rng.choice((agreed.line - 1, 0, 16384, 131072)))
-        rng.choices(*DISPATCHER_STEPS)[0](rng, script, agreed)
-    return script
-
-
 POOL_LIMITS = (4, 20, 2048)  # lines of packets up to these are sent, to take stretches from
 # The kinds of steps, and how often each is taken.
 STEPS = [*zip(*(
     (add_sender_state, 24), (add_receiver_state, 24), (add_restarted_state, 3), (add_register_state, 4), (add_changed_area, 3),
     (add_wrong_register, 3), (add_decoded_frame, 6), (add_held_frame, 6), (add_whole_frame, 4), (add_line, 3), (add_fills, 3),
     (add_wrong, 4), (add_session, 7), (add_plain_bounds, 8), (add_switch, 5), (add_stuffed, 8), (add_nearly_full, 4),
-    (add_plain_line, 3), (add_pairs, 7), (add_plain_sender, 6), (add_dispatched, 4)))]
+    (add_plain_line, 3), (add_pairs, 7), (add_plain_sender, 6)))]
 
 
 def any_script(rng, pools):
@@ -2124,19 +1735,18 @@ def broken_script(rng, script):
 def every_area_number():
     """A fill of each of the 256, each with octets of its own, and what they left."""
     fills = [fill(area, 10 * (area % 9), bytes((area, 1, 255 - area))) for area in range(256)]
-    return b"".join(fills) + b"".join(show(area, 0, 100 if area != LINE_AREA else 1000) for area in range(256))
+    return b"".join(fills) + b"".join(show(area, 0, 100) for area in range(256))
 
 
 def longest_operands(rng):
     """Every count as large as it can be, with areas lent as largely."""
     return b"".join((
-        lend((65535,) * 4), lend_out(65535), lend_line(2 ** 32 - 1), *(fill(area, 0, rng.randbytes(65535)) for area in range(7)),
-        *(fill(area, 65535, rng.randbytes(65535)) for area in range(7)), load_low(rng.randbytes(65535)), SHOW_STATES,
+        lend((65535,) * 4), lend_out(65535), *(fill(area, 0, rng.randbytes(65535)) for area in range(6)),
+        *(fill(area, 65535, rng.randbytes(65535)) for area in range(6)), load_low(rng.randbytes(65535)), SHOW_STATES,
         load_low(rng.randbytes(2048)), next_octets(65535), open_receiver(3), receive(rng.randbytes(65535)), SHOW_STATES,
         open_pair(3), receive(b"\xff" + rng.randbytes(65534)), SHOW_STATES, send_plain(rng.randbytes(65535)),
-        send_plain(bytes(2048)), dispatch_low(rng.randbytes(65535)), dispatch_high(rng.randbytes(65535)), SHOW_DISPATCHER,
-        dispatch_low(rng.randbytes(2048)), dispatched(65535), SHOW_DISPATCHER,
-        *(show(area, at, 65535) for area in range(7) for at in (0, 4096, 65535))))
+        send_plain(bytes(2048)),
+        *(show(area, at, 65535) for area in range(6) for at in (0, 65535))))
 
 
 def held_or_nothing():
@@ -2322,114 +1932,7 @@ def limit_and_width(limit, width):
 def lent_at_start(width, limit):
     """Calls with what is lent at the start."""
     return b"".join((open_sender(3, width, limit), open_receiver(3, width, limit), load_low(b"AB"), load_high(b"AB"),
-                     next_octets(1), receive(b"\x05\x31" + FLAG), SHOW_STATES, open_dispatcher(3, width, limit),
-                     dispatch_low(b"AB"),
-                     dispatch_high(b"AB"), dispatched(1), SHOW_DISPATCHER))
-
-
-def after_each_call(numbers):
-    """A dispatcher handed in thrice, one call after each, and what is left."""
-    return b"".join(hand_dispatcher(numbers) + call + SHOW_DISPATCHER for call in (
-        dispatch_low(b"AB"), dispatch_high(b"AB"), dispatched(1))) + show(LINE_AREA, 0, 160)
-
-
-# Senders that a dispatcher may have, the numbers between settings and width: nothing loaded; low suspended, on the line (inside a
-# block, between blocks, with a cut due, covered) or neither; high on the line, in it and covered; the two together.
-SITUATIONS = (
-    (0, 0, 0, 0, 0, 0, 0, 0, 0), (9, 2, 0, 0, 0, 0, 0, 1, 0), (9, 2, 4, 0, 0, 0, 0, 1, 0), (9, 2, 4, 0, 0, 0, 0, 0, 0),
-    (9, 2, 0, 0, 0, 0, 0, 0, 0), (9, 2, 0, 0, 5, 1, 1, 0, 0), (9, 2, 4, 0, 5, 1, 1, 0, 0), (9, 2, 0, 0, 0, 0, 1, 0, 0),
-    (9, 2, 4, 0, 0, 0, 1, 0, 0), (9, 2, 0, 0, 0, 0, 1, 0, 1), (9, 2, 4, 0, 0, 0, 1, 0, 1), (9, 10, 0, 0, 0, 0, 1, 0, 0),
-    (9, 10, 4, 0, 0, 0, 1, 0, 0), (9, 2, 4, 1, 3, 1, 2, 1, 0), (9, 2, 4, 5, 0, 0, 2, 1, 0), (9, 2, 4, 5, 0, 0, 2, 0, 0),
-    (0, 0, 4, 5, 0, 0, 2, 0, 0), (9, 10, 4, 0, 0, 0, 0, 1, 0))
-
-
-def every_count():
-    """Each situation with each count closed and each count of octets left, at and beyond their bounds, with PRE and without, with
-    packets waiting and none."""
-    parts = [fill(0, 0, b"1" * 20), fill(1, 0, b"2" * 20), fill(LINE_AREA, 0, b"3" * 200)]
-    for situation, closed, waiting, bits in itertools.product(SITUATIONS, (0, 1, 2, 3, 4, 255), (0, 1), (3, 0)):
-        for grace in (0, 1, 2, 63, 64, 65, 255):
-            parts += [hand_dispatcher((bits, *situation, 16, 2048, 0, waiting, *[2] * 8, closed, grace)), dispatched(1),
-                      SHOW_DISPATCHER,
-                      dispatched(1), SHOW_DISPATCHER]
-    return b"".join(parts)
-
-
-def every_place():
-    """Each first place and count of waiting packets, at and beyond their bounds; each length of each place at the edges."""
-    parts = [lend(lent(16, 20)), lend_line(160), fill(LINE_AREA, 0, bytes(range(1, 201)))]
-    for first, waiting in itertools.product((*range(10), 255, 256), (*range(11), 255, 256)):
-        parts.append(after_each_call((3, *[0] * 9, 16, 20, first, waiting, *range(2, 10), 0, 0)))
-    for place, length, first, waiting in itertools.product(range(8), (0, 1, 2, 19, 20, 21, 65535), (0, 3, 7), (0, 1, 4, 8)):
-        lengths = [2] * 8
-        lengths[place] = length
-        parts.append(after_each_call((3, *[0] * 9, 16, 20, first, waiting, *lengths, 0, 0)))
-    return b"".join(parts)
-
-
-def every_dispatcher_width():
-    """A dispatcher opened with each width, and handed in with it; all is lent, or nothing."""
-    parts = []
-    for width in range(256):
-        parts += [open_dispatcher(width, width), SHOW_DISPATCHER]
-        for lengths, line in (((0,) * 4, 0), ((20480,) * 4, 131072)):
-            parts += [lend(lengths), lend_line(line), after_each_call((3, *[0] * 9, width, 2048, *[0] * 12))]
-    return b"".join(parts)
-
-
-def every_dispatcher_limit():
-    """The same with each of the 65,536 limits, all that there is being lent."""
-    parts = [lend((20480,) * 4), lend_line(131072)]
-    for limit in range(65536):
-        parts += [open_dispatcher(limit % 256, 16, limit), SHOW_DISPATCHER,
-                  hand_dispatcher((3, *[0] * 9, 32, limit, 7, 1, *[0] * 7, limit, 0, 0)), dispatch_high(b"AB"), dispatched(1)]
-    return b"".join(parts)
-
-
-def line_of_limit(limit, width):
-    """A dispatcher of this limit with each area exactly long enough, one octet short and longer; packets as long as can be and one
-    octet longer; every place."""
-    agreed, parts = Agreed(width, limit), []
-    for low, high, line in ((0, 0, 0), (1, 0, 0), (0, 1, 0), (0, 0, 1), (0, 0, -1)):
-        parts += [lend((agreed.longest - low, agreed.longest - high, 0, 0)), lend_line(agreed.line - line),
-                  open_dispatcher(3, *agreed),
-                  dispatch_low(b"AB"), dispatch_high(b"A" * (limit + 1)), dispatch_high(b"A" * limit), dispatch_high(b"A"),
-                  dispatched(3),
-                  SHOW_DISPATCHER]
-    parts += [lend(agreed.areas), lend_line(agreed.line)]
-    for place in range(8):
-        parts += [hand_dispatcher((3, *[0] * 9, *agreed, place, 0, *[0] * 8, 0, 0)),
-                  dispatch_high(bytes(range(65, 65 + min(limit, 9)))),
-                  show(LINE_AREA, place * limit // 16, 40), dispatched(1), SHOW_DISPATCHER, show(1, 0, 20)]
-    return b"".join(parts)
-
-
-def full_line(rng, low, settings, width, limit):
-    """A low packet and then the line kept full: a high load before every call, all of them shown."""
-    calls = 400 + 3 * len(low)
-    return b"".join((lend(lent(width, limit)), lend_line(8 * limit), open_dispatcher(settings, width, limit), dispatch_low(low),
-                     dispatched(1), *(dispatch_high(rng.randbytes(2)) + dispatched(1) + SHOW_DISPATCHER for _ in range(calls))))
-
-
-def dispatcher_scripts(rng):
-    """Named scripts of the dispatcher that chance would seldom make."""
-    yield "the dispatcher's start", SHOW_DISPATCHER + show(LINE_AREA, 0, 65535) + show(LINE_AREA, 4096, 65535)
-    for command in (open_dispatcher(3, 32, 20), hand_dispatcher(range(24)), lend_line(0x10203), dispatch_low(b"AB"),
-                    dispatch_high(b"AB"),
-                    dispatched(3), SHOW_DISPATCHER):
-        for cut in range(1, len(command) + 1):
-            yield f"command {command[:1].decode()}, {cut} octets", SHOW_DISPATCHER + command[:cut]
-    yield "every count of the dispatcher", every_count()
-    yield "every place of the line", every_place()
-    yield "every width of the dispatcher", every_dispatcher_width()
-    yield "every limit of the dispatcher", every_dispatcher_limit()
-    for limit in (2, 3, 16, 20, 2047, 2048, 2049, 8192, 16383, 16384):
-        for width in WIDTHS:
-            yield f"line of limit {limit}, {width} bits", line_of_limit(limit, width)
-    for settings, width in itertools.product((0, 1, 2, 3), WIDTHS):
-        for low in (b"1" * 200, bytes(200), FLAG * 200, rng.randbytes(200), (b"1" * 15 + b"\0") * 20, b"1" * (125 - width // 8)):
-            yield f"full line, settings {settings}, {width} bits", full_line(rng, low, settings, width, 320)
-    yield "full line, the longest low packet", full_line(rng, b"1" * 2048, 3, 16, 2048)
+                     next_octets(1), receive(b"\x05\x31" + FLAG), SHOW_STATES))
 
 
 def fixed_scripts(rng):
@@ -2487,50 +1990,17 @@ def note_show(line, shown, seen):
         seen.answers["show", "", f"area {area}"] += 1
 
 
-def event_of(before, now, used_up):
-    """What one next-octet call did to a dispatcher, by its numbers before and after; or None."""
-    suspended, cut = 8, 9
-    if now[cut] and not before[cut]:
-        return USED_UP_02 if used_up else BY_02
-    if now[suspended] and not before[suspended] and not before[cut]:
-        return USED_UP if used_up else SUSPENDED
-    if before[suspended] and not now[suspended]:
-        return RESUMED_MORE if before[CLOSED] == 3 and now[3] and now[WAITING] else None if now[3] else RESUMED
-    return None
-
-
-def note_event(kinds, shown, seen):
-    """Of a state shown where one call stands between it and the state shown before. `shown` has the numbers by the place among the
-    kinds."""
-    at = max(shown)
-    now, before, earlier = (shown.get(n) for n in (at, at - 2, at - 4))
-    if before is None or kinds[at - 1][:2] != ("dispatched octet", 1):
-        return
-    used_up = earlier is not None and kinds[at - 3][:2] == ("dispatched octet", 1) and earlier[GRACE] == 1 and before[GRACE] == 0
-    event = event_of(before, now, used_up)
-    agreed = Agreed(now[WIDTH], now[LIMIT])
-    if event and agreed.good:
-        seen.answers["dispatcher", words(agreed), event] += 1
-
-
 def note_answers(script, out, seen):
     """Tells the lines of a whole script's output apart, call by call."""
     lines = out.decode().split("\n")
-    at, shown = 0, {}
-    for place, (kind, calls, about) in enumerate(script.kinds):
+    at = 0
+    for kind, calls, about in script.kinds:
         seen.calls += calls
-        if kind in DISPATCHED:
-            seen.dispatched[kind] += calls
-        if kind in ("load", "next octet", "plain send", *DISPATCHED[1:]):
+        if kind in ("load", "next octet", "plain send"):
             for line in lines[at:at + calls]:
                 seen.answers[kind, about, answer_of(line)] += 1
             at += calls
-        elif kind == "dispatcher":
-            shown = {n: numbers for n, numbers in shown.items() if n >= place - 4}
-            shown[place] = [int(field) for field in lines[at].split()[1:]]
-            note_event(script.kinds, shown, seen)
-            at += 1
-        elif kind in ("open sender", "open receiver", "open pair", "open dispatcher"):
+        elif kind in ("open sender", "open receiver", "open pair"):
             opened = about in GOOD
             seen.answers[kind, about, "opened" if opened else answer_of(lines[at])] += 1
             at += not opened
@@ -2557,26 +2027,12 @@ def compare_scripts(programs, rng, total, seen):
         programs.same("exercise", data, name)
         seen.scripts += 1
     while seen.calls < total:
-        compare_script(programs, rng, any_script(rng, pools), seen)
-
-
-def compare_script(programs, rng, script, seen):
-    """A script, and seldom a damaged one made of it."""
-    note_answers(script, programs.same("exercise", script.octets(), f"script {seen.scripts}"), seen)
-    seen.scripts += 1
-    if rng.random() < 0.2:
-        programs.same("exercise", broken_script(rng, script), f"broken script {seen.scripts}")
+        script = any_script(rng, pools)
+        note_answers(script, programs.same("exercise", script.octets(), f"script {seen.scripts}"), seen)
         seen.scripts += 1
-
-
-def compare_dispatcher(programs, rng, total, seen):
-    """The dispatcher's own scripts, of so many calls."""
-    for name, data in dispatcher_scripts(rng):
-        programs.same("exercise", data, name)
-        seen.scripts += 1
-    total += seen.dispatched.total()
-    while seen.dispatched.total() < total:
-        compare_script(programs, rng, dispatcher_script(rng), seen)
+        if rng.random() < 0.2:
+            programs.same("exercise", broken_script(rng, script), f"broken script {seen.scripts}")
+            seen.scripts += 1
 
 
 # ------------------------------------------------------------------------------------------------
@@ -2592,27 +2048,23 @@ CALLS = {"load": ["D", "R 1", "R 2", "R 3", "R 4"],
          "next octet": ["O", "I", "R 2", "R 3"],
          "receiver": ["Quiet", "P area 0", "P area 1", "H replaced 0", "H replaced 1",
                       *(f"R {n}" for n in (2, 3, *range(5, 15), 18, 21))],
-         "plain send": ["W", "R 1", "R 2"],
-         "low load": ["D", "R 1", "R 2", "R 3", "R 4"],
-         "high load": ["D", "R 1", "R 2", "R 3", "R 22"],
-         "dispatched octet": ["O", "I", "R 2", "R 3"]}
-DISPATCHED = ("open dispatcher", "low load", "high load", "dispatched octet")
+         "plain send": ["W", "R 1", "R 2"]}
 WRONG_LIMITS = ("limit below 2", "limit above 16,384")
 # Good widths and limits. Every answer must be seen at small limits and at 2,048, and these at 16,384.
 GOOD = {f"{width} bits, {limit}": limit for width in WIDTHS for limit in (
     "small limit", "limit 2,048", "limit 16,384", "other limit")}
 AT_16384 = ("D", "O", "I", "W", "Quiet", "P area 0", "P area 1", "H replaced 0", "H replaced 1",
-            *(f"R {n}" for n in (1, 2, 3, 4, 10, 14, 18, 22)))
+            *(f"R {n}" for n in (1, 2, 3, 4, 10, 14, 18)))
 KNOWN = {(call, about, a) for call, answers in CALLS.items() for about in GOOD for a in answers}
 ANSWERS = [(call, about, a) for call, answers in CALLS.items() for about, limit in GOOD.items() for a in answers
            if limit != "other limit" and (limit != "limit 16,384" or a in AT_16384)]
 # With areas for 16 bits alone a state of 32 is 2. A wrong width or limit is 3, whatever is lent; to open with, a wrong
 # limit is 23, whatever the width.
-ANSWERS += [(call, "32 bits, areas for 16", "R 2") for call in CALLS if call not in ("plain send", "high load")]
+ANSWERS += [(call, "32 bits, areas for 16", "R 2") for call in CALLS if call != "plain send"]
 WRONG = ["wrong width", *(f"{width}, {limit}" for width in ("16 bits", "32 bits", "wrong width") for limit in WRONG_LIMITS)]
 ANSWERS += [(call, about + short, "R 3") for call in CALLS for about in WRONG for short in ("", ", short area")]
 ANSWERS += [(call, about, "opened" if about in GOOD else "R 23" if about.endswith(WRONG_LIMITS) else "R 3")
-            for call in ("open sender", "open receiver", "open pair", "open dispatcher") for about in (*GOOD, *WRONG)]
+            for call in ("open sender", "open receiver", "open pair") for about in (*GOOD, *WRONG)]
 # A pair's sending map may be refused for three reasons, and a plain sender's state for four, behind 2.
 OF_MAPS = [(("open pair", f"{about}, {why}", "R 19"), limit) for about, limit in GOOD.items() for why in (LACKS, HAS_5E, HAS_20)]
 OF_MAPS += [(("plain send", f"{about}, {why}", answer), limit) for about, limit in GOOD.items()
@@ -2623,46 +2075,28 @@ KNOWN |= {answer for answer, _ in OF_MAPS}
 ANSWERS += [("receiver", f"{about}, {what}", answer) for what, answer in TOLD.items() for about, limit in GOOD.items()
             if limit != "other limit" and not (what == BEYOND and about.startswith("32"))]
 KNOWN |= {("receiver", f"{about}, {what}", answer) for what, answer in TOLD.items() for about in GOOD}
-# The dispatcher at and beyond its bounds, and what its octets did; a low packet uses up its 64 octets only with larger limits.
-ANSWERS += [(call, f"{about}, {what}", answer) for call, what, answer in (*LINE_TOLD, *LENT_TOLD) for about, limit in GOOD.items()
-            if limit in ("small limit", "limit 2,048") or limit == "limit 16,384" and (call, what, answer) in LENT_TOLD]
-KNOWN |= {(call, f"{about}, {what}", answer) for call, what, answer in (*LINE_TOLD, *LENT_TOLD) for about in GOOD}
-ANSWERS += [("dispatcher", about, what) for about, limit in GOOD.items() if limit in ("small limit", "limit 2,048")
-            for what in (*EVENTS, *(LATE_EVENTS if limit == "limit 2,048" else ()))]
-KNOWN |= {("dispatcher", about, what) for about in GOOD for what in (*EVENTS, *LATE_EVENTS)}
 ANSWERS += [("show", "", what) for n in range(len(WHOLE_AREAS))
             for what in (f"area {n}", f"area {n} to its end", f"beyond area {n}")] + [("show", "", "no such area")]
 KNOWN |= set(ANSWERS)
 
 
-def of_dispatcher(key):
-    call, _, answer = key
-    return call in (*DISPATCHED, "dispatcher") or call == "show" and answer.endswith((f"area {LINE_AREA}",
-                                                                                      f"area {LINE_AREA} to its end"))
-
-
-def print_seen(seen, only_dispatcher):
-    """What was compared and seen, and what was not."""
-    answers = [key for key in ANSWERS if not only_dispatcher or of_dispatcher(key)]
-    if not only_dispatcher:
-        print(f"captures: {seen.captures}, octets compared: {seen.octets}")
-        print("reports seen: " + ", ".join(f"{kind} {count}" for kind, count in seen.reports.items()))
+def print_seen(seen):
+    print(f"captures: {seen.captures}, octets compared: {seen.octets}")
+    print("reports seen: " + ", ".join(f"{kind} {count}" for kind, count in seen.reports.items()))
     print(f"scripts: {seen.scripts}, calls compared: {seen.calls}")
-    print(f"the dispatcher's calls among them: {seen.dispatched.total()} ("
-          + ", ".join(f"{kind} {count}" for kind, count in seen.dispatched.items()) + ")")
-    several = collections.Counter(key[:2] for key in answers)
+    several = collections.Counter(key[:2] for key in ANSWERS)
     lines = collections.defaultdict(list)
-    for call, about, answer in answers:  # where only one answer can come, all that it comes for stands in its line
+    for call, about, answer in ANSWERS:  # where only one answer can come, all that it comes for stands in its line
         head, item = (about, answer) if several[call, about] > 1 else (answer, about)
         lines[", ".join(filter(None, (call, head)))].append(f"{item} {seen.answers[call, about, answer]}")
     for head, items in lines.items():
         print(f"answers of {head}: " + "; ".join(items))
-    missing = [kind for kind in REPORTS if not seen.reports[kind] and not only_dispatcher]
-    missing += [" ".join(filter(None, key)) for key in answers if not seen.answers[key]]
+    missing = [kind for kind in REPORTS if not seen.reports[kind]]
+    missing += [" ".join(filter(None, key)) for key in ANSWERS if not seen.answers[key]]
     strange = [" ".join(filter(None, key)) for key in seen.answers if key not in KNOWN]
     strange += [f"{kind} in captures {seen.reports[kind]} times" for kind in UNSEEN if seen.reports[kind] > 0]
     strange += ["plain held in captures"] * (seen.reports["plain held"] > 0)
-    missing += [f"the line {kind}" for kind in UNSEEN if kind not in seen.reports and not only_dispatcher]
+    missing += [f"the line {kind}" for kind in UNSEEN if kind not in seen.reports]
     print("not seen: " + (", ".join(missing) or "none"))
     if strange:
         print("not known: " + ", ".join(strange))
@@ -2674,9 +2108,6 @@ def main():
     parser.add_argument("--ours", required=True, metavar="DIR")
     parser.add_argument("--octets", type=int, default=DEFAULT_OCTETS)
     parser.add_argument("--calls", type=int, default=DEFAULT_CALLS)
-    parser.add_argument("--dispatcher-calls", type=int, default=DEFAULT_DISPATCHER_CALLS, metavar="N",
-                        help="calls of the dispatcher's own scripts")
-    parser.add_argument("--only-dispatcher", action="store_true", help="these scripts alone")
     parser.add_argument("--seed", type=int, default=1)
     parser.add_argument("--save", default=".", metavar="DIR", help="where a difference is saved")
     asked = parser.parse_args()
@@ -2688,14 +2119,11 @@ def main():
     seen = Seen()
     with tempfile.TemporaryDirectory() as folder:
         programs = Programs(build_model(folder), asked.ours, asked.save)
-        if not asked.only_dispatcher:
-            compare_captures(programs, random.Random(asked.seed), asked.octets, seen)
-            compare_scripts(programs, random.Random(asked.seed + 1_000_000), asked.calls, seen)
-        compare_dispatcher(programs, random.Random(asked.seed + 2_000_000), asked.dispatcher_calls, seen)
-    missing = print_seen(seen, asked.only_dispatcher)
+        compare_captures(programs, random.Random(asked.seed), asked.octets, seen)
+        compare_scripts(programs, random.Random(asked.seed + 1_000_000), asked.calls, seen)
+    missing = print_seen(seen)
     print("0 differ")
-    full = asked.only_dispatcher or asked.octets >= DEFAULT_OCTETS and asked.calls >= DEFAULT_CALLS
-    if missing and full and asked.dispatcher_calls >= DEFAULT_DISPATCHER_CALLS:
+    if missing and asked.octets >= DEFAULT_OCTETS and asked.calls >= DEFAULT_CALLS:
         sys.exit(1)
 
 

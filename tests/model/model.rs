@@ -1,9 +1,9 @@
 //! An independent model of the COBS link of document 01 (settings ZXE and PRE, two lanes, two
 //! receive areas), with the 32-bit check, the agreed limit of a packet, the restart, the held
-//! octets' register, plain PPP and the dispatcher of document 02, slips 1, 11, 4, 8, 5 and 10.
-//! Written from these documents, the readings of 02 that were agreed on, and the exercise driver's
-//! format alone. "01" and "02" in the comments are the documents, and "step n" is 01's numbered
-//! step. A comment `Reading:` marks a place where the words were weighed.
+//! octets' register and plain PPP of document 02, slips 1, 11, 4, 8 and 5. Written from these
+//! documents, the readings of 02 that were agreed on, and the exercise driver's format alone. "01"
+//! and "02" in the comments are the documents, and "step n" is 01's numbered step. A comment
+//! `Reading:` marks a place where the words were weighed.
 //!
 //!     rustc -C opt-level=3 --edition 2021 -o model model.rs
 //!
@@ -67,7 +67,6 @@ mod refusal {
     pub const ESCAPE_OPEN: u8 = 18;
     pub const SENDING_MAP: u8 = 19;
     pub const HELD_CHANGED: u8 = 21;
-    pub const LINE_FULL: u8 = 22;
     pub const LIMIT: u8 = 23;
     /// The first and last of 01 that refuse a frame.
     pub const FRAME_FIRST: u8 = BEGINS_FF;
@@ -396,22 +395,6 @@ impl Lane {
     }
 }
 
-/// 02's rule for a dispatcher's sender, before step 2 and before step 4. 01's own sender has neither.
-#[derive(Clone, Copy)]
-struct Rule {
-    /// Before step 2: a suspended low lane goes on even if high is loaded.
-    low_first: bool,
-    /// Before step 4: low cannot be broken off.
-    shield: bool,
-}
-
-impl Rule {
-    const NONE: Rule = Rule {
-        low_first: false,
-        shield: false,
-    };
-}
-
 /// The answer of a load.
 enum Loaded {
     Done,
@@ -519,18 +502,13 @@ impl Sender {
         if !self.agreed.packet_lengths().contains(&packet.len()) {
             return Loaded::Refused(refusal::PACKET_LENGTH);
         }
-        self.put(name, area, packet);
-        Loaded::Done
-    }
-
-    /// Writes F at the area's start and nothing beyond; the lane is at its beginning.
-    fn put(&mut self, name: LaneName, area: &mut [u8], packet: &[u8]) {
         let frame = self.agreed.frame_of(packet);
         area[..frame.len()].copy_from_slice(&frame);
         *self.lane_mut(name) = Lane {
             length: frame.len(),
             position: 0,
         };
+        Loaded::Done
     }
 
     /// Next octet, lent both areas.
@@ -545,17 +523,12 @@ impl Sender {
         if !self.in_bounds() {
             return Next::Refused(refusal::STATE);
         }
-        self.steps(low_area, high_area, Rule::NONE)
-    }
-
-    /// 01's steps, areas and state being good.
-    fn steps(&mut self, low_area: &[u8], high_area: &[u8], rule: Rule) -> Next {
         // Step 1.
         if self.cut_due {
             return self.cut();
         }
         // Step 2.
-        let name = match self.on_line.or_else(|| self.lane_to_go(rule)) {
+        let name = match self.on_line.or_else(|| self.lane_to_go()) {
             Some(name) => name,
             None => return Next::Idle,
         };
@@ -568,18 +541,18 @@ impl Sender {
             LaneName::Low => low_area,
             LaneName::High => high_area,
         };
-        self.send_from(name, area, rule)
+        self.send_from(name, area)
     }
 
     /// Steps 3 to 6, with `name` on the line.
-    fn send_from(&mut self, name: LaneName, area: &[u8], rule: Rule) -> Next {
+    fn send_from(&mut self, name: LaneName, area: &[u8]) -> Next {
         let lane = self.lane(name);
         // Step 3.
         if lane.covered() {
             return self.close(name);
         }
         // Step 4.
-        if name == LaneName::Low && self.settings.pre() && self.high.loaded() && !rule.shield {
+        if name == LaneName::Low && self.settings.pre() && self.high.loaded() {
             return if self.left > 0 {
                 self.cut()
             } else {
@@ -597,11 +570,9 @@ impl Sender {
         }
     }
 
-    /// Step 2's choice of a lane: a loaded high one goes first, unless the rule has it otherwise.
-    fn lane_to_go(&self, rule: Rule) -> Option<LaneName> {
-        if rule.low_first {
-            Some(LaneName::Low)
-        } else if self.high.loaded() {
+    /// Step 2's choice of a lane: a loaded high one goes first.
+    fn lane_to_go(&self) -> Option<LaneName> {
+        if self.high.loaded() {
             Some(LaneName::High)
         } else if self.low.loaded() {
             Some(LaneName::Low)
@@ -666,190 +637,6 @@ impl Sender {
             self.zeros = block.zeros;
         }
         Next::Octet(to_line(code))
-    }
-}
-
-// ---------------------------------------------------------------------------------------------
-// Dispatcher
-// ---------------------------------------------------------------------------------------------
-
-/// The places of the line of waiting high packets.
-const PLACES: usize = 8;
-/// So many high packets closed since a suspension, and low resumes.
-const CLOSED_MOST: usize = 3;
-/// Octets that low has after D1 before it can be broken off again.
-const GRACE_MOST: usize = 64;
-
-#[derive(Clone, Copy)]
-struct Dispatcher {
-    sender: Sender,
-    /// The place of the first waiting packet.
-    first: usize,
-    /// How many wait, there and at the places after it, round in turn.
-    waiting: usize,
-    /// Of the packet at each place.
-    lengths: [usize; PLACES],
-    /// High packets closed since low's suspension.
-    closed: usize,
-    /// Octets that low still has before it can be broken off.
-    grace: usize,
-}
-
-impl Dispatcher {
-    /// An opened dispatcher, or the number of the refusal.
-    fn open(settings: Settings, agreed: Agreed) -> Result<Dispatcher, u8> {
-        Ok(Dispatcher::fresh(settings, agreed.at_opening()?))
-    }
-
-    fn fresh(settings: Settings, agreed: Agreed) -> Dispatcher {
-        Dispatcher {
-            sender: Sender::fresh(settings, agreed),
-            first: 0,
-            waiting: 0,
-            lengths: [0; PLACES],
-            closed: 0,
-            grace: 0,
-        }
-    }
-
-    /// Eight times the largest packet.
-    // Reading: packets wait, not frames, so that there is no room for an FCS.
-    fn line_area(&self) -> usize {
-        PLACES * self.sender.agreed.packet_longest()
-    }
-
-    /// The place that stands so many behind the first.
-    fn place(&self, behind: usize) -> usize {
-        (self.first + behind) % PLACES
-    }
-
-    /// Where a place lies in the line area.
-    fn place_start(&self, place: usize) -> usize {
-        place * self.sender.agreed.packet_longest()
-    }
-
-    /// The sender's bounds and those of 02; width and limit are good.
-    // Reading: the length of a place where none waits is not looked at; closed and grace are tested
-    // by their limits alone, whatever low is doing.
-    fn in_bounds(&self) -> bool {
-        self.sender.in_bounds()
-            && self.first < PLACES
-            && self.waiting <= PLACES
-            && self.closed <= CLOSED_MOST
-            && self.grace <= GRACE_MOST
-            && self.waiting_in_bounds()
-    }
-
-    /// A waiting packet has a length that 1 does not refuse.
-    fn waiting_in_bounds(&self) -> bool {
-        let good = self.sender.agreed.packet_lengths();
-        (0..self.waiting).all(|behind| good.contains(&self.lengths[self.place(behind)]))
-    }
-
-    /// The refusals that every call begins with: 3 by width or limit, 2, 3 by the rest.
-    fn refusal(&self, areas_long_enough: bool) -> Option<u8> {
-        if !self.sender.agreed.good() {
-            Some(refusal::STATE)
-        } else if !areas_long_enough {
-            Some(refusal::AREA_SHORT)
-        } else if !self.in_bounds() {
-            Some(refusal::STATE)
-        } else {
-            None
-        }
-    }
-
-    /// The low load, lent that lane's area: the sender's own.
-    fn load_low(&mut self, low_area: &mut [u8], packet: &[u8]) -> Loaded {
-        let long_enough = low_area.len() >= self.sender.agreed.sender_area();
-        match self.refusal(long_enough) {
-            Some(number) => Loaded::Refused(number),
-            None => self.sender.load(LaneName::Low, low_area, packet),
-        }
-    }
-
-    /// The high load, lent the line area: the packet waits behind those that wait already.
-    // Reading: whatever the high lane holds, so that 4 is never given.
-    fn load_high(&mut self, line_area: &mut [u8], packet: &[u8]) -> Loaded {
-        if let Some(number) = self.refusal(line_area.len() >= self.line_area()) {
-            return Loaded::Refused(number);
-        }
-        if self.waiting == PLACES {
-            return Loaded::Refused(refusal::LINE_FULL);
-        }
-        if !self.sender.agreed.packet_lengths().contains(&packet.len()) {
-            return Loaded::Refused(refusal::PACKET_LENGTH);
-        }
-        let place = self.place(self.waiting);
-        let start = self.place_start(place);
-        line_area[start..start + packet.len()].copy_from_slice(packet);
-        self.lengths[place] = packet.len();
-        self.waiting += 1;
-        Loaded::Done
-    }
-
-    /// Next octet, lent all three areas. Of these it writes the high one, and only where it loads.
-    fn next_octet(&mut self, low_area: &[u8], high_area: &mut [u8], line_area: &[u8]) -> Next {
-        let least = self.sender.agreed.sender_area();
-        let long_enough = low_area.len() >= least
-            && high_area.len() >= least
-            && line_area.len() >= self.line_area();
-        if let Some(number) = self.refusal(long_enough) {
-            return Next::Refused(number);
-        }
-        if !self.sender.high.loaded() && self.waiting > 0 {
-            self.load_first_waiting(high_area, line_area);
-        }
-        let before = self.sender;
-        let answer = self.sender.steps(low_area, high_area, self.rule());
-        self.count_since(&before);
-        answer
-    }
-
-    /// The first waiting packet goes to the high lane.
-    // Reading: the length of the place that it leaves goes to 0, as a closed lane's does.
-    fn load_first_waiting(&mut self, high_area: &mut [u8], line_area: &[u8]) {
-        let start = self.place_start(self.first);
-        let packet = &line_area[start..start + self.lengths[self.first]];
-        self.sender.put(LaneName::High, high_area, packet);
-        self.lengths[self.first] = 0;
-        self.first = self.place(1);
-        self.waiting -= 1;
-    }
-
-    fn rule(&self) -> Rule {
-        let sender = &self.sender;
-        Rule {
-            low_first: sender.on_line.is_none() && sender.suspended && self.closed == CLOSED_MOST,
-            shield: self.grace > 0,
-        }
-    }
-
-    /// Closed and grace after the sender's steps, by what these did.
-    // Reading: high packets are counted only while low is suspended; the 64 octets are what is sent
-    // after D1, codes and data, and D1 is none of them.
-    fn count_since(&mut self, before: &Sender) {
-        let now = &self.sender;
-        if now.suspended && !before.suspended {
-            // Low is suspended.
-            self.closed = 0;
-            self.grace = 0;
-        } else if before.suspended && !now.suspended {
-            // D1.
-            self.closed = 0;
-            self.grace = GRACE_MOST;
-        } else if before.high.loaded() && !now.high.loaded() {
-            // High's closing flag.
-            if now.suspended {
-                self.closed = CLOSED_MOST.min(self.closed + 1);
-            }
-        } else if before.low.loaded() && !now.low.loaded() {
-            // Low's closing flag.
-            self.grace = 0;
-        } else if now.on_line == Some(LaneName::Low) {
-            // Another octet of low.
-            self.grace = self.grace.saturating_sub(1);
-        }
     }
 }
 
@@ -1590,18 +1377,6 @@ impl<W: Write> Lines<W> {
     fn held(&mut self, count: usize, replaced: bool) -> io::Result<()> {
         self.numbers(b'H', &[count, usize::from(replaced)])
     }
-
-    fn sent(&mut self, answer: Next) -> io::Result<()> {
-        match answer {
-            Next::Octet(octet) => {
-                self.begin(b'O');
-                self.octets(&[octet]);
-                self.end()
-            }
-            Next::Idle => self.letter(b'I'),
-            Next::Refused(number) => self.refused(number),
-        }
-    }
 }
 
 // ---------------------------------------------------------------------------------------------
@@ -1669,38 +1444,26 @@ fn count(input: &mut impl Read, mut output: impl Write) -> io::Result<()> {
 const END_AREA: usize = 20_480;
 /// The same of out.
 const OUT_AREA: usize = 40_960;
-/// The same of line.
-const LINE_AREA: usize = 131_072;
 const LOW: usize = 0;
 const HIGH: usize = 1;
 const FIRST: usize = 2;
 const SECOND: usize = 3;
 const OUT: usize = 4;
-const LINE: usize = 5;
-const AREAS: usize = 6;
-/// The whole of each.
-const WHOLE: [usize; AREAS] = [END_AREA, END_AREA, END_AREA, END_AREA, OUT_AREA, LINE_AREA];
+const AREAS: usize = 5;
 /// Lent at the start: enough for 16 bits and packets to 2,048.
-const LENT: [usize; AREAS] = [2_050, 2_050, 2_051, 2_051, 2_051, 16_384];
-/// So many octets are one step of the places in line.
-const LINE_STEP: usize = 16;
+const LENT: [usize; AREAS] = [2_050, 2_050, 2_051, 2_051, 2_051];
 
 /// A command with all of its operands.
 enum Command<'a> {
     OpenSender(Settings, Agreed),
     OpenReceiver(Settings, Agreed, bool, ControlMap),
     OpenPair(Settings, Agreed, ControlMap, Marks),
-    OpenDispatcher(Settings, Agreed),
     Load(LaneName, &'a [u8]),
     Next(usize),
-    /// The dispatcher's loads and next-octet calls.
-    Dispatch(LaneName, &'a [u8]),
-    NextDispatched(usize),
     Receive(&'a [u8]),
     /// Lengths of low, high, first and second.
     Lend([usize; 4]),
     LendOut(usize),
-    LendLine(usize),
     Fill {
         area: usize,
         at: usize,
@@ -1709,10 +1472,8 @@ enum Command<'a> {
     HandSender(Sender),
     HandReceiver(Receiver),
     HandPlainSender(PlainSender),
-    HandDispatcher(Dispatcher),
     SendPlain(&'a [u8]),
     ShowStates,
-    ShowDispatcher,
     ShowArea {
         area: usize,
         at: usize,
@@ -1742,17 +1503,12 @@ impl<'a> Script<'a> {
                 self.map()?,
                 self.marks()?,
             ),
-            b'q' => Command::OpenDispatcher(Settings(self.octet()?), self.agreed()?),
             b'l' => Command::Load(LaneName::Low, self.octets()?),
             b'h' => Command::Load(LaneName::High, self.octets()?),
             b'n' => Command::Next(self.number()?),
-            b'g' => Command::Dispatch(LaneName::Low, self.octets()?),
-            b'j' => Command::Dispatch(LaneName::High, self.octets()?),
-            b'k' => Command::NextDispatched(self.number()?),
             b'r' => Command::Receive(self.octets()?),
             b'a' => Command::Lend(self.numbers()?.map(|length| length.min(END_AREA))),
             b'A' => Command::LendOut(self.number()?.min(OUT_AREA)),
-            b'L' => Command::LendLine((self.long()? as usize).min(LINE_AREA)),
             b'f' => Command::Fill {
                 area: self.octet()?.into(),
                 at: self.number()?,
@@ -1764,10 +1520,8 @@ impl<'a> Script<'a> {
                 agreed: self.agreed()?,
                 marks: self.marks()?,
             }),
-            b'Q' => Command::HandDispatcher(dispatcher_of(self.numbers()?, self.numbers()?)),
             b'w' => Command::SendPlain(self.octets()?),
             b'd' => Command::ShowStates,
-            b'K' => Command::ShowDispatcher,
             b'x' => Command::ShowArea {
                 area: self.octet()?.into(),
                 at: self.number()?,
@@ -1811,13 +1565,9 @@ impl<'a> Script<'a> {
         Some(agreed_of(self.octet()?.into(), self.number()?))
     }
 
-    /// Four octets, low octet first.
-    fn long(&mut self) -> Option<u32> {
-        Some(u32::from_le_bytes(self.take(4)?.try_into().ok()?))
-    }
-
     fn map(&mut self) -> Option<ControlMap> {
-        self.long().map(ControlMap)
+        let octets = self.take(4)?.try_into().ok()?;
+        Some(ControlMap(u32::from_le_bytes(octets)))
     }
 
     fn marks(&mut self) -> Option<Marks> {
@@ -1875,32 +1625,6 @@ fn sender_numbers(sender: &Sender) -> [usize; 12] {
         usize::from(sender.agreed.width),
         usize::from(sender.agreed.limit),
     ]
-}
-
-/// The twenty-four numbers of `Q`: those of `s`, and twelve of the dispatcher's own.
-fn dispatcher_of(sender: [usize; 12], own: [usize; 12]) -> Dispatcher {
-    let [first, waiting, lengths @ .., closed, grace] = own;
-    Dispatcher {
-        sender: sender_of(sender),
-        first: kept_in_octet(first),
-        waiting: kept_in_octet(waiting),
-        lengths,
-        closed: kept_in_octet(closed),
-        grace: kept_in_octet(grace),
-    }
-}
-
-/// A number as a field of one octet keeps it: a larger one as its largest.
-fn kept_in_octet(number: usize) -> usize {
-    number.min(usize::from(u8::MAX))
-}
-
-fn dispatcher_numbers(dispatcher: &Dispatcher) -> Vec<usize> {
-    let mut numbers = sender_numbers(&dispatcher.sender).to_vec();
-    numbers.extend([dispatcher.first, dispatcher.waiting]);
-    numbers.extend(dispatcher.lengths);
-    numbers.extend([dispatcher.closed, dispatcher.grace]);
-    numbers
 }
 
 /// The seventeen numbers of `t`.
@@ -1970,28 +1694,18 @@ fn receiver_numbers(receiver: &Receiver) -> [usize; 17] {
     ]
 }
 
-/// Where the operand `at` lies in an area.
-fn begin_of(area: usize, at: usize) -> usize {
-    if area == LINE {
-        at * LINE_STEP
-    } else {
-        at
-    }
-}
-
 /// The places from `at` on, at most `count`, of an area that has `whole` in all.
 fn part(at: usize, count: usize, whole: usize) -> std::ops::Range<usize> {
     let begin = at.min(whole);
     begin..(begin + count).min(whole)
 }
 
-/// Both ends, the plain sender, the dispatcher, the whole areas by their numbers, and the lengths with
-/// which these are lent.
+/// Both ends, the plain sender, the whole areas by their numbers, and the lengths with which these
+/// are lent.
 struct Bench<W: Write> {
     sender: Sender,
     receiver: Receiver,
     plain_sender: PlainSender,
-    dispatcher: Dispatcher,
     areas: [Vec<u8>; AREAS],
     lengths: [usize; AREAS],
     lines: Lines<W>,
@@ -2003,8 +1717,7 @@ impl<W: Write> Bench<W> {
             sender: Sender::fresh(Settings(0), Agreed::BASE),
             receiver: Receiver::fresh(Settings(0), Agreed::BASE, Mode::Off, ControlMap::EMPTY),
             plain_sender: PlainSender::fresh(Agreed::BASE, Marks::EMPTY),
-            dispatcher: Dispatcher::fresh(Settings(0), Agreed::BASE),
-            areas: WHOLE.map(|whole| vec![0; whole]),
+            areas: [END_AREA, END_AREA, END_AREA, END_AREA, OUT_AREA].map(|whole| vec![0; whole]),
             lengths: LENT,
             lines: Lines::new(output),
         }
@@ -2042,26 +1755,17 @@ impl<W: Write> Bench<W> {
                     Err(number) => self.lines.refused(number)?,
                 }
             }
-            Command::OpenDispatcher(settings, agreed) => match Dispatcher::open(settings, agreed) {
-                Ok(dispatcher) => self.dispatcher = dispatcher,
-                Err(number) => self.lines.refused(number)?,
-            },
             Command::Load(name, packet) => self.load(name, packet)?,
             Command::Next(count) => self.next(count)?,
-            Command::Dispatch(name, packet) => self.dispatch(name, packet)?,
-            Command::NextDispatched(count) => self.next_dispatched(count)?,
             Command::Receive(octets) => self.receive(octets)?,
             Command::Lend(lengths) => self.lengths[..OUT].copy_from_slice(&lengths),
             Command::LendOut(length) => self.lengths[OUT] = length,
-            Command::LendLine(length) => self.lengths[LINE] = length,
             Command::Fill { area, at, octets } => self.fill(area, at, octets),
             Command::HandSender(sender) => self.sender = sender,
             Command::HandReceiver(receiver) => self.receiver = receiver,
             Command::HandPlainSender(sender) => self.plain_sender = sender,
-            Command::HandDispatcher(dispatcher) => self.dispatcher = dispatcher,
             Command::SendPlain(packet) => self.send_plain(packet)?,
             Command::ShowStates => self.show_states()?,
-            Command::ShowDispatcher => self.show_dispatcher()?,
             Command::ShowArea { area, at, count } => self.show_area(area, at, count)?,
         }
         Ok(())
@@ -2073,54 +1777,31 @@ impl<W: Write> Bench<W> {
             LaneName::High => HIGH,
         };
         let lent = &mut self.areas[area][..self.lengths[area]];
-        let answer = self.sender.load(name, lent, packet);
-        self.loaded(answer)
-    }
-
-    fn loaded(&mut self, answer: Loaded) -> io::Result<()> {
-        match answer {
+        match self.sender.load(name, lent, packet) {
             Loaded::Done => self.lines.letter(b'D'),
             Loaded::Refused(number) => self.lines.refused(number),
         }
-    }
-
-    /// A dispatcher's load: a high packet goes to the line.
-    fn dispatch(&mut self, name: LaneName, packet: &[u8]) -> io::Result<()> {
-        let area = match name {
-            LaneName::Low => LOW,
-            LaneName::High => LINE,
-        };
-        let lent = &mut self.areas[area][..self.lengths[area]];
-        let answer = match name {
-            LaneName::Low => self.dispatcher.load_low(lent, packet),
-            LaneName::High => self.dispatcher.load_high(lent, packet),
-        };
-        self.loaded(answer)
     }
 
     fn next(&mut self, count: usize) -> io::Result<()> {
         let low = &self.areas[LOW][..self.lengths[LOW]];
         let high = &self.areas[HIGH][..self.lengths[HIGH]];
         for _ in 0..count {
-            self.lines.sent(self.sender.next_octet(low, high))?;
-        }
-        Ok(())
-    }
-
-    fn next_dispatched(&mut self, count: usize) -> io::Result<()> {
-        let [low, high, _, _, _, line] = &mut self.areas;
-        let low = &low[..self.lengths[LOW]];
-        let high = &mut high[..self.lengths[HIGH]];
-        let line = &line[..self.lengths[LINE]];
-        for _ in 0..count {
-            self.lines
-                .sent(self.dispatcher.next_octet(low, high, line))?;
+            match self.sender.next_octet(low, high) {
+                Next::Octet(octet) => {
+                    self.lines.begin(b'O');
+                    self.lines.octets(&[octet]);
+                    self.lines.end()?;
+                }
+                Next::Idle => self.lines.letter(b'I')?,
+                Next::Refused(number) => self.lines.refused(number)?,
+            }
         }
         Ok(())
     }
 
     fn receive(&mut self, octets: &[u8]) -> io::Result<()> {
-        let [_, _, first, second, _, _] = &mut self.areas;
+        let [_, _, first, second, _] = &mut self.areas;
         let mut lent: Areas = [
             &mut first[..self.lengths[FIRST]],
             &mut second[..self.lengths[SECOND]],
@@ -2157,9 +1838,8 @@ impl<W: Write> Bench<W> {
 
     /// What lies beyond the whole area is dropped; an area that is not there takes nothing.
     fn fill(&mut self, area: usize, at: usize, octets: &[u8]) {
-        let begin = begin_of(area, at);
         if let Some(area) = self.areas.get_mut(area) {
-            let places = part(begin, octets.len(), area.len());
+            let places = part(at, octets.len(), area.len());
             let kept = places.len();
             area[places].copy_from_slice(&octets[..kept]);
         }
@@ -2170,17 +1850,11 @@ impl<W: Write> Bench<W> {
         self.lines.numbers(b'T', &receiver_numbers(&self.receiver))
     }
 
-    fn show_dispatcher(&mut self) -> io::Result<()> {
-        self.lines
-            .numbers(b'K', &dispatcher_numbers(&self.dispatcher))
-    }
-
     /// An area that is not there has no octets.
     fn show_area(&mut self, area: usize, at: usize, count: usize) -> io::Result<()> {
-        let begin = begin_of(area, at);
         self.lines.begin(b'X');
         if let Some(area) = self.areas.get(area) {
-            self.lines.octets(&area[part(begin, count, area.len())]);
+            self.lines.octets(&area[part(at, count, area.len())]);
         }
         self.lines.end()
     }

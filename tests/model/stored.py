@@ -6,8 +6,8 @@
     tests/captures/NAME.octets      a capture
     tests/captures/NAME.lines       what the capture program prints for it
     tests/captures/NAME.counts      what the count program prints for it
-    tests/scripts/NAME.script       commands for the exercise driver; base, width, limit, restart, areas, plain and
-                                    dispatcher have the tables below
+    tests/scripts/NAME.script       commands for the exercise driver; base, width, limit, restart, areas and plain have
+                                    the tables below
     tests/scripts/NAME.answers      what the driver writes for them
     crates/count/stdin, stdout      the capture stale-fragment, and its counts
 
@@ -21,10 +21,9 @@ import random
 import sys
 import tempfile
 
-from compare import (FLAG, HERE, LINE_AREA, WHOLE_AREAS, WIDTHS, Programs, build_model, dispatch_high, dispatch_low, dispatched,
-                     fcs, fill, halves, hand_dispatcher, hand_plain_sender, hand_receiver, hand_sender, lend, lend_line, lend_out,
-                     lent, load_high, load_low, marks, next_octets, open_dispatcher, open_pair, open_receiver, open_sender, packet,
-                     receive, register_over, send_plain, sent_octets, show, stuffed, zero_free)
+from compare import (FLAG, HERE, WHOLE_AREAS, WIDTHS, Programs, build_model, fcs, fill, halves, hand_plain_sender, hand_receiver,
+                     hand_sender, lend, lend_out, lent, load_high, load_low, marks, next_octets, open_pair, open_receiver,
+                     open_sender, packet, receive, register_over, send_plain, sent_octets, show, stuffed, zero_free)
 
 
 def hx(text):
@@ -328,7 +327,6 @@ D = b"d"
 DEFAULT_LENGTHS = lend(lent(16))
 LONG_LENGTHS = lend((20480, 20480, 20480, 20480))
 OUT_AREA = 4
-TO_OUT = WHOLE_AREAS[:OUT_AREA + 1]  # the areas 0 to 4
 
 
 def sender(settings=3, low=(0, 0), high=(0, 0), left=0, zeros=0, line=0, suspended=0, cut=0, width=16, limit=2048):
@@ -396,7 +394,7 @@ FRESH = ["S 0 0 0 0 0 0 0 0 0 0 16 2048", "T 0 0 0 0 0 0 0 0 0 0 16 2048 65535 0
 def start():
     yield "both ends open, settings 0, 16 bits, packets to 2,048", D, FRESH
     yield ("all areas zeros",
-           b"".join(show(area, 0, 3) + show(area, whole - 3, 9) for area, whole in enumerate(TO_OUT)),
+           b"".join(show(area, 0, 3) + show(area, whole - 3, 9) for area, whole in enumerate(WHOLE_AREAS)),
            ["X 00 00 00"] * 10)
     yield ("areas lent long enough", load_low(hx("41 42")) + load_high(hx("41 42")) + next_octets(1)
            + receive(hx("D2 7E")), "D, D, O 05, R 7")
@@ -832,8 +830,8 @@ def script_format():
         yield (f"the end of area {area}", fill(area, 20477, hx("99 AA BB CC DD")) + show(area, 20477, 9)
                + show(area, 20479, 1) + show(area, 20480, 1) + show(area, 65535, 1), ["X 99 AA BB", "X BB", "X", "X"])
     yield ("nothing goes over into another area", mark_begins()
-           + b"".join(fill(area, whole - 1, bytes((0xC0 + area,)) + hx("DD") * 30) for area, whole in enumerate(TO_OUT))
-           + b"".join(show(area, 0, 2) + show(area, whole - 1, 9) for area, whole in enumerate(TO_OUT)),
+           + b"".join(fill(area, whole - 1, bytes((0xC0 + area,)) + hx("DD") * 30) for area, whole in enumerate(WHOLE_AREAS))
+           + b"".join(show(area, 0, 2) + show(area, whole - 1, 9) for area, whole in enumerate(WHOLE_AREAS)),
            ["X A0 B0", "X C0", "X A1 B1", "X C1", "X A2 B2", "X C2", "X A3 B3", "X C3", "X A4 B4", "X C4"])
     yield ("f from beyond the end on", fill(1, 20479, hx("55")) + fill(1, 20480, hx("DD"))
            + fill(1, 65535, hx("DD DD DD")) + show(1, 20479, 9) + show(1, 0, 2) + show(2, 0, 2),
@@ -867,8 +865,8 @@ def no_area():
     yield ("area octet above 6", mark_begins() + b"".join(fill(area, 0, hx("DD DD")) for area in above) + begins
            + show(7, 0, 2) + show(8, 0, 0) + show(128, 0, 2) + show(255, 0, 65535) + show(255, 65535, 65535),
            unchanged + ["X"] * 5)
-    yield ("area 5 is the line, area 6 is not there yet", fill(5, 0, hx("DD DD")) + fill(6, 0, hx("DD DD")) + begins
-           + show(5, 0, 2) + show(6, 0, 2), unchanged + ["X DD DD", "X"])
+    yield ("areas 5 and 6 are not there yet", fill(5, 0, hx("DD DD")) + fill(6, 0, hx("DD DD")) + begins
+           + show(5, 0, 2) + show(6, 0, 2), unchanged + ["X", "X"])
     yield "what f of no area brings is read, not carried out", fill(200, 0x6464, b"ddd") + show(0, 0, 2), ["X A0 B0"]
 
 
@@ -3104,662 +3102,6 @@ PLAIN_TABLE = [
 ]
 
 
-# ------------------------------------------------------------------------------------------------
-# The table of the script dispatcher: document 02, slip 10
-# ------------------------------------------------------------------------------------------------
-
-K = b"K"
-HIGH_LINE = hx("05 41 42 EF 31 7E")  # the packet 41 42 on the line
-FIFTEEN = (b"1" * 15 + bytes(1)) * 20
-
-
-def numbers_of(settings=3, low=(0, 0), high=(0, 0), left=0, zeros=0, line=0, suspended=0, cut=0, width=16, limit=2048, first=0,
-               waiting=0, lengths=None, closed=0, grace=0):
-    """A dispatcher's twenty-four numbers; the lengths by their places, the others 0."""
-    lengths = lengths or {}
-    return (settings, *low, *high, left, zeros, line, suspended, cut, width, limit, first, waiting,
-            *(lengths.get(place, 0) for place in range(8)), closed, grace)
-
-
-def dispatcher(**numbers):
-    return hand_dispatcher(numbers_of(**numbers))
-
-
-def seen(**numbers):
-    """The line of `K`."""
-    return " ".join(("K", *map(str, numbers_of(**numbers))))
-
-
-def shown(data):
-    return "X" + "".join(f" {octet:02X}" for octet in data)
-
-
-def dispatching(settings=3, width=16, limit=2048):
-    """A dispatcher opened, and areas exactly long enough."""
-    return lend(lent(width, limit)) + lend_line(8 * limit) + open_dispatcher(settings, width, limit)
-
-
-def stretches(*parts):
-    """Octets as they go on the line: a text, octets, or how often 41 42 is sent."""
-    for part in parts:
-        if isinstance(part, int):
-            yield from [HIGH_LINE] * part
-        else:
-            yield hx(part) if isinstance(part, str) else part
-
-
-def loads_between(line, waiting=0):
-    """Commands and lines: a high load of 41 42 before each call that sends an octet of these stretches, with so many waiting
-    at first. Eight may wait; a call takes the first of them where the high lane is empty, as it is at the beginning here and
-    behind each closing flag of a high packet."""
-    commands, lines, empty = b"", [], True
-    for part in line:
-        for octet in part:
-            commands += dispatch_high(TWO) + dispatched(1)
-            lines += ["D" if waiting < 8 else "R 22", f"O {octet:02X}"]
-            waiting = min(8, waiting + 1) - empty
-            empty = False
-        empty = part == HIGH_LINE
-    return commands, lines
-
-
-def least_t(n):
-    """The least whole number T with 63 T at least n + 1."""
-    return (n + 1 + 62) // 63
-
-
-def full_line(low, begin, *parts, settings=3):
-    """A low packet of which the first octet is sent; then eight high packets wait, and the line is kept full while the rest of
-    it is sent, up to its closing flag. Beside commands and lines: how many high packets were closed in between."""
-    line = [*stretches(*parts)]
-    assert line[-1][-1:] == FLAG and line[-1] != HIGH_LINE
-    commands, lines = loads_between(line, 8)
-    return (dispatching(settings) + dispatch_low(low) + dispatched(1) + dispatch_high(TWO) * 9 + commands + K,
-            ["D", f"O {begin}", *["D"] * 8, "R 22", *lines], line.count(HIGH_LINE))
-
-
-def dispatcher_start():
-    yield "settings 0, 16 bits, packets to 2,048, nothing waits", K, [seen(settings=0)]
-    yield "line is zeros", show(LINE_AREA, 0, 3) + show(LINE_AREA, 8191, 17), [shown(bytes(3)), shown(bytes(16))]
-    yield ("what is lent will do", dispatch_low(TWO) + dispatch_high(TWO) + dispatched(2) + K,
-           ["D", "D", "O 05", "O 41", seen(settings=0, low=(4, 0), high=(4, 1), left=3, zeros=1, line=2, first=1)])
-    yield "both ends stay as they are", D, FRESH
-    yield ("16,384 octets of line are lent, and no more", lend(lent(16, 2049)) + open_dispatcher(3, 16, 2049) + dispatch_low(TWO)
-           + dispatch_high(TWO) + dispatched(1) + lend_line(16392) + dispatch_high(TWO) + dispatched(1) + DEFAULT_LENGTHS
-           + lend_line(16384), "D, R 2, R 2, D, O 05")
-
-
-def dispatcher_examples():
-    """The table of examples that goes with the slip's readings, row by row; settings 03, 16 bits, packets to 2,048, high packets
-    41 42."""
-    commands, lines = loads_between([*stretches("7E", 3, "D1 05 31 31 37 80 7E", 1)])
-    yield ("31 31, one octet, then a high load before every call", dispatching() + dispatch_low(hx("31 31")) + dispatched(1)
-           + commands, ["D", "O 05", *lines])
-    low, data = b"1" * 200, b"1" * 63
-    commands, lines, closed = full_line(
-        low, "CB", "7E", 3, hx("D1 CB") + data + FLAG, 3, hx("D1 8C") + data + FLAG, 3, hx("D1 4D") + data + FLAG, 3,
-        hx("D1 0E") + b"1" * 11 + fcs(low) + FLAG)
-    assert closed == 12 == 3 * least_t(202) and len([line for line in lines if line[0] == "O"]) == 288
-    yield ("31 200 times, the line always full: the bound met, 12 high packets closed", commands,
-           [*lines, seen(high=(4, 0), first=5, waiting=8, lengths=dict.fromkeys(range(8), 2))])
-    commands, lines, closed = full_line(
-        FIFTEEN, "10", "7E", *[3, hx("D1") + (hx("10") + b"1" * 15) * 4 + hx("02 7E")] * 5, 3, hx("D1 03") + fcs(FIFTEEN) + FLAG,
-        settings=2)
-    assert closed == 18 == 3 * least_t(322)
-    yield ("settings 02, fifteen 31 and a zero 20 times: the bound met, 18 high packets closed", commands,
-           [*lines, seen(settings=2, high=(4, 0), first=3, waiting=8, lengths=dict.fromkeys(range(8), 2))])
-    for n, rest, most, want in (
-            (62, ["7E", 3, ("3F", 62)], 3, 3), (63, ["7E", 3, ("40", 63)], 6, 3), (64, ["7E", 3, ("41", 63), 3, ("02", 1)], 6, 6),
-            (125, ["7E", 3, ("00", 63), 3, ("3F", 62)], 6, 6), (126, ["7E", 3, ("7F", 63), 3, ("40", 63)], 9, 6),
-            (127, ["7E", 3, ("80", 63), 3, ("41", 63), 3, ("02", 1)], 9, 9)):
-        low = b"1" * (n - 2)
-        left, parts = low + fcs(low), []
-        for part in rest:
-            if isinstance(part, tuple):
-                code, count = part
-                part, left = hx("D1" + code) + left[:count] + FLAG, left[count:]
-            parts.append(part)
-        commands, lines, closed = full_line(low, f"{n + 1:02X}" if n != 125 else "00", *parts)
-        assert closed == want <= most == 3 * least_t(n) and not left
-        yield (f"a frame of {n}: {closed} high packets closed", commands,
-               [*lines, seen(high=(4, 0), first=(closed + 1) % 8, waiting=8, lengths=dict.fromkeys(range(8), 2))])
-    yield ("nine high loads, then one of one octet", dispatching() + dispatch_high(TWO) * 9 + dispatch_high(ONE) + K,
-           ["D"] * 8 + ["R 22", "R 22", seen(waiting=8, lengths=dict.fromkeys(range(8), 2))])
-    yield ("a high load of one octet, line of 16,383 and of 16,384", dispatching() + lend_line(16383) + dispatch_high(ONE)
-           + lend_line(16384) + dispatch_high(ONE) + K, ["R 2", "R 1", seen()])
-    yield ("length 1 at place 3, nothing waits", dispatcher(lengths={3: 1}) + dispatch_low(TWO) + dispatch_high(TWO) + dispatched(1)
-           + K, ["D", "D", "O 05", seen(low=(4, 0), high=(4, 0), left=4, zeros=1, line=2, first=1, lengths={3: 1})])
-    for name, numbers in (("length 1 of the first waiting", dict(first=3, waiting=1, lengths={3: 1})), ("closed 4", dict(closed=4)),
-                          ("grace 65", dict(grace=65)), ("first 8", dict(first=8)),
-                          ("waiting 9", dict(waiting=9, lengths=dict.fromkeys(range(8), 2)))):
-        yield (name, dispatcher(**numbers) + dispatch_low(TWO) + dispatch_high(TWO) + dispatched(1) + K,
-               ["R 3"] * 3 + [seen(**numbers)])
-
-
-def dispatcher_openings():
-    full = dict(low=(9, 2), high=(6, 0), left=3, zeros=1, line=1, first=5, waiting=2, lengths={5: 3, 6: 2, 7: 9}, closed=2, grace=7)
-    for width in WIDTHS:
-        for limit in (2, 3, 2047, 2048, 2049, 16383, 16384):
-            yield (f"{width} bits, limit {limit}", dispatcher(**full) + open_dispatcher(limit % 256, width, limit) + K,
-                   [seen(settings=limit % 256, width=width, limit=limit)])
-    for limit in OUT_OF_RANGE:
-        yield (f"23 first: limit {limit}", dispatcher(**full) + b"".join(
-            open_dispatcher(0, width, limit) for width in (16, 32, 0, 24, 255)) + K, ["R 23"] * 5 + [seen(**full)])
-    for width in WRONG:
-        yield (f"3: width {width}", b"".join(open_dispatcher(0, width, limit) for limit in (2, 2048, 16384)) + K,
-               ["R 3"] * 3 + [seen(**full)])
-    yield ("the lengths lent play no part", lend((0,) * 4) + lend_line(0) + open_dispatcher(3, 32, 16384) + K
-           + open_dispatcher(3, 32, 16385) + open_dispatcher(3, 31, 2), [seen(width=32, limit=16384), "R 23", "R 3"])
-    yield ("a refused opening leaves a state out of bounds too", dispatcher(width=24, limit=1, first=9) + open_dispatcher(3, 16, 1)
-           + open_dispatcher(3, 24) + K, ["R 23", "R 3", seen(width=24, limit=1, first=9)])
-
-
-def dispatcher_high_loads():
-    """The line of waiting packets. With a limit of 16 each place is a step of `f` and `x`."""
-    packets = [ramp(count) for count in range(2, 10)]
-    filled = dict(enumerate(range(2, 10)))
-    yield "EE in the line", dispatching(limit=16) + fill(LINE_AREA, 0, hx("EE") * 160), []
-    for place, data in enumerate(packets):
-        yield (f"place {place}: {len(data)} octets, and only these are written", dispatch_high(data) + show(LINE_AREA, place, 18)
-               + K,
-               ["D", shown(data + hx("EE") * (18 - len(data))),
-                seen(limit=16, waiting=place + 1, lengths={n: n + 2 for n in range(place + 1)})])
-    yield ("22: nothing is written", dispatch_high(TWO) + dispatch_high(b"") + dispatch_high(ramp(17))
-           + b"".join(show(LINE_AREA, place, 16) for place in range(9)) + K,
-           ["R 22"] * 3 + [shown(data + hx("EE") * (16 - len(data))) for data in packets] + [shown(hx("EE") * 16)]
-           + [seen(limit=16, waiting=8, lengths=filled)])
-    yield ("they come in turn, and each place that is left has length 0", dispatched(1) + K + dispatched(5) + dispatched(1) + K,
-           ["O 05", seen(limit=16, high=(4, 0), left=4, zeros=1, line=2, first=1, waiting=7,
-                         lengths={n: n + 2 for n in range(1, 8)}),
-            *sent(hx("01 02") + fcs(hx("01 02")) + FLAG), "O 06",
-            seen(limit=16, high=(5, 0), left=5, zeros=1, line=2, first=2, waiting=6, lengths={n: n + 2 for n in range(2, 8)})])
-    yield ("place 0 again, behind place 7", dispatch_high(hx("91 92")) + show(LINE_AREA, 0, 4) + dispatch_high(hx("93 94 95"))
-           + show(LINE_AREA, 1, 4) + dispatch_high(TWO) + K,
-           ["D", "X 91 92 EE EE", "D", "X 93 94 95 EE", "R 22",
-            seen(limit=16, high=(5, 0), left=5, zeros=1, line=2, first=2, waiting=8, lengths={**filled, 0: 2, 1: 3})])
-    line = b"".join(block_line(data, 16) for data in (*packets[1:], hx("91 92"), hx("93 94 95")))
-    yield ("and all of them in the order of the loads", dispatched(len(line)) + K, [*sent(line[1:]), "I", seen(limit=16, first=2)])
-    for first in range(8):
-        for waiting in (0, 1, 7):
-            place, lengths = (first + waiting) % 8, {(first + n) % 8: 2 for n in range(waiting)}
-            yield (f"first place {first}, {waiting} waiting: place {place}", fill(LINE_AREA, 0, hx("EE") * 128)
-                   + dispatcher(limit=16, first=first, waiting=waiting, lengths=lengths) + dispatch_high(hx("91 92 93"))
-                   + b"".join(show(LINE_AREA, n, 4) for n in range(8)) + K,
-                   ["D", *("X 91 92 93 EE" if n == place else "X EE EE EE EE" for n in range(8)),
-                    seen(limit=16, first=first, waiting=waiting + 1, lengths={**lengths, place: 3})])
-        yield (f"first place {first}, 8 waiting: 22", dispatcher(limit=16, first=first, waiting=8, lengths=filled)
-               + dispatch_high(TWO) + dispatch_high(ONE) + dispatch_high(ramp(17)) + K,
-               ["R 22"] * 3 + [seen(limit=16, first=first, waiting=8, lengths=filled)])
-    yield ("1: none, 1 and 17 octets", dispatching(limit=16) + fill(LINE_AREA, 0, hx("EE") * 40) + dispatch_high(b"")
-           + dispatch_high(ONE) + dispatch_high(ramp(17)) + show(LINE_AREA, 0, 20) + K, ["R 1"] * 3
-           + [shown(hx("EE") * 20), seen(limit=16)])
-    yield ("16 octets fill a place", dispatch_high(ramp(16)) + show(LINE_AREA, 0, 20) + K,
-           ["D", shown(ramp(16) + hx("EE") * 4), seen(limit=16, waiting=1, lengths={0: 16})])
-    yield ("never 4: eight wait beside the one in the lane", dispatcher(high=(4, 0)) + lend(lent(16)) + lend_line(16384)
-           + dispatch_high(TWO) * 9 + K, ["D"] * 8 + ["R 22", seen(high=(4, 0), waiting=8, lengths=dict.fromkeys(range(8), 2))])
-    for name, numbers in (
-            ("low on the line", dict(low=(90, 2), left=3, zeros=1, line=1, grace=5)), ("cut due", dict(low=(90, 2), line=1, cut=1)),
-            ("low suspended, 3 closed", dict(low=(90, 2), suspended=1, closed=3)),
-            ("high on the line", dict(low=(90, 2), high=(9, 3), left=2, line=2, suspended=1, closed=2)),
-            ("both loaded", dict(low=(4, 0), high=(4, 0), closed=1, grace=64)), ("empty, position 1", dict(high=(0, 1)))):
-        yield (f"nothing else changes, the lane is not loaded: {name}", dispatcher(first=7, **numbers) + dispatch_high(TWO)
-               + dispatch_high(hx("43 44 45")) + K, ["D", "D", seen(first=7, waiting=2, lengths={7: 2, 0: 3}, **numbers)])
-    yield ("lent the line alone", dispatching() + lend((0,) * 4) + dispatch_high(TWO) + dispatch_low(TWO) + dispatched(1) + K
-           + DEFAULT_LENGTHS, ["D", "R 2", "R 2", seen(waiting=1, lengths={0: 2})])
-    yield ("neither lane's area is written", dispatching() + fill(0, 0, hx("EE") * 9) + fill(1, 0, hx("EE") * 9)
-           + dispatch_high(TWO) + show_sender(), ["D", shown(hx("EE") * 8), shown(hx("EE") * 8)])
-    for width in WIDTHS:
-        yield (f"limit 16,384, {width} bits: place 7", lend_line(131072) + dispatcher(width=width, limit=LONGEST, first=7)
-               + fill(LINE_AREA, 7168, hx("EE") * 5) + fill(LINE_AREA, 8191, hx("EE") * 16) + dispatch_high(b"")
-               + dispatch_high(b"A" * (LONGEST + 1)) + dispatch_high(hx("41 42 43")) + show(LINE_AREA, 7168, 5) + show(LINE_AREA, 8191, 16) + K,
-               ["R 1", "R 1", "D", "X 41 42 43 EE EE", shown(hx("EE") * 16),
-                seen(width=width, limit=LONGEST, first=7, waiting=1, lengths={7: 3})])
-    yield ("the longest packet there", dispatcher(limit=LONGEST, first=7) + dispatch_high(b"A" * LONGEST)
-           + show(LINE_AREA, 7167, 18)
-           + show(LINE_AREA, 8191, 16) + K,
-           ["D", shown(bytes(16) + b"AA"), shown(b"A" * 16), seen(limit=LONGEST, first=7, waiting=1, lengths={7: LONGEST})])
-    yield ("and sent: its frame in the high area", lend(lent(16, LONGEST)) + dispatched(2) + show(1, 16382, 5) + K,
-           ["O D0", "O 41", shown(b"AA" + fcs(b"A" * LONGEST) + bytes(1)), seen(limit=LONGEST, high=(16386, 1), left=206, line=2)])
-
-
-def dispatcher_low_loads():
-    waits = dict(first=6, waiting=3, lengths={6: 2, 7: 3, 0: 4, 3: 1}, closed=2, grace=9)
-    yield ("Done: line and counts stay", dispatching() + dispatcher(**waits) + fill(0, 0, hx("EE") * 9) + dispatch_low(TWO)
-           + show(0, 0, 6) + K, ["D", "X 41 42 EF 31 EE EE", seen(low=(4, 0), **waits)])
-    yield ("4, and nothing changes", dispatch_low(hx("43 44")) + show(0, 0, 6) + K,
-           ["R 4", "X 41 42 EF 31 EE EE", seen(low=(4, 0), **waits)])
-    yield "4 before 1", dispatch_low(ONE) + dispatch_low(b"A" * 2049), "R 4, R 4"
-    yield ("1", dispatcher(**waits) + dispatch_low(b"") + dispatch_low(ONE) + dispatch_low(b"A" * 2049) + K,
-           ["R 1"] * 3 + [seen(**waits)])
-    yield "2,048 octets", dispatch_low(b"A" * 2048) + show(0, 2046, 5) + K, [
-        "D", shown(b"AA" + fcs(b"A" * 2048) + bytes(1)), seen(low=(2050, 0), **waits)]
-    yield ("a full line does not hinder it", dispatcher(waiting=8, lengths=dict.fromkeys(range(8), 2)) + dispatch_low(TWO), "D")
-    yield ("lent the low area alone", open_dispatcher(3) + lend((2050, 0, 0, 0)) + lend_line(0) + dispatch_low(TWO) + K,
-           ["D", seen(low=(4, 0))])
-    yield ("one short", open_dispatcher(3) + lend((2049, 20480, 0, 0)) + lend_line(131072) + dispatch_low(TWO) + K + DEFAULT_LENGTHS
-           + lend_line(16384), ["R 2", seen()])
-    for name, numbers in (("high on the line", dict(high=(9, 2), left=3, line=2)), ("position 1", dict(low=(0, 1), high=(4, 0)))):
-        yield (f"beside the high lane, {name}", dispatcher(**numbers) + dispatch_low(TWO) + K,
-               ["D", seen(**{**numbers, "low": (4, 0)})])
-
-
-def dispatcher_loads_first():
-    """Each next-octet call first loads the first waiting if the high lane is empty, and nothing else does."""
-    ready = dispatching(limit=16) + fill(LINE_AREA, 2, TWO + hx("EE EE")) + fill(LINE_AREA, 3, hx("43 44 45 EE"))
-    waits = dict(limit=16, first=2, waiting=2, lengths={2: 2, 3: 3, 4: 77})
-    left = dict(limit=16, first=3, waiting=1, lengths={3: 3, 4: 77})
-    yield ("F at the high area's start and nothing beyond; line stays", ready + fill(1, 0, hx("DD") * 9) + dispatcher(**waits)
-           + dispatched(1) + show(1, 0, 6) + show(LINE_AREA, 2, 4) + show(LINE_AREA, 3, 4) + K,
-           ["O 05", "X 41 42 EF 31 DD DD", "X 41 42 EE EE", "X 43 44 45 EE",
-            seen(high=(4, 0), left=4, zeros=1, line=2, **left)])
-    yield ("a position of an empty lane goes to 0", dispatcher(high=(0, 1), **waits) + dispatched(1) + K,
-           ["O 05", seen(high=(4, 0), left=4, zeros=1, line=2, **left)])
-    yield ("not while the lane holds one", fill(1, 0, hx("41 41 41 41")) + dispatcher(high=(4, 2), **waits) + dispatched(3) + K
-           + dispatched(1) + K + show(1, 0, 4) + dispatched(1) + K,
-           ["O 03", "O 41", "O 41", seen(high=(4, 5), line=2, **waits), "O 7E", seen(**waits), "X 41 41 41 41", "O 05",
-            seen(high=(4, 0), left=4, zeros=1, line=2, **left)])
-    yield ("also while low cannot be broken off", low_frame(hx("31") * 18)
-           + dispatcher(low=(18, 2), left=9, line=1, grace=2, **waits)
-           + dispatched(1) + K + dispatched(1) + K + dispatched(1) + K,
-           ["O 31", seen(low=(18, 3), high=(4, 0), left=8, line=1, grace=1, **left),
-            "O 31", seen(low=(18, 4), high=(4, 0), left=7, line=1, **left),
-            "O 7E", seen(low=(18, 4), high=(4, 0), suspended=1, **left)])
-    yield ("also with a cut due", dispatcher(low=(18, 2), line=1, cut=1, **waits) + dispatched(1) + K,
-           ["O 7E", seen(low=(18, 2), high=(4, 0), suspended=1, **left)])
-    yield ("also with low's closing flag", dispatcher(low=(18, 19), line=1, **waits) + dispatched(1) + K,
-           ["O 7E", seen(high=(4, 0), **left)])
-    yield ("also where low resumes", dispatcher(low=(18, 2), suspended=1, closed=3, **waits) + dispatched(1) + K,
-           ["O D1", seen(low=(18, 2), high=(4, 0), line=1, grace=64, **left)])
-    yield ("also without PRE, and low goes on", dispatcher(settings=1, low=(18, 2), left=9, line=1, **waits) + dispatched(1) + K,
-           ["O 31", seen(settings=1, low=(18, 3), high=(4, 0), left=8, line=1, **left)])
-    yield ("and breaks off low in the same call, inside a block", dispatcher(low=(18, 2), left=9, zeros=2, line=1, **waits)
-           + dispatched(1) + K, ["O 7E", seen(low=(18, 2), high=(4, 0), suspended=1, **left)])
-    yield ("and between blocks", dispatcher(low=(18, 2), line=1, **waits) + dispatched(1) + K + dispatched(1) + K,
-           ["O 02", seen(low=(18, 2), high=(4, 0), line=1, cut=1, **left), "O 7E",
-            seen(low=(18, 2), high=(4, 0), suspended=1, **left)])
-    yield ("before low, not begun", dispatcher(low=(18, 0), **waits) + dispatched(1) + K,
-           ["O 05", seen(low=(18, 0), high=(4, 0), left=4, zeros=1, line=2, **left)])
-    yield ("the last of eight places, then the first", fill(LINE_AREA, 7, TWO) + fill(LINE_AREA, 0, hx("43 44 45"))
-           + dispatcher(limit=16, first=7, waiting=2, lengths={7: 2, 0: 3}) + dispatched(6) + K + dispatched(1) + K,
-           [*sent(HIGH_LINE), seen(limit=16, first=0, waiting=1, lengths={0: 3}), "O 06",
-            seen(limit=16, high=(5, 0), left=5, zeros=1, line=2, first=1)])
-    yield ("with nothing waiting none", dispatcher(limit=16, first=3, lengths={3: 2}) + dispatched(2) + K,
-           ["I", "I", seen(limit=16, first=3, lengths={3: 2})])
-    for name, lengths in (("low", (17, 20480, 0, 0)), ("high", (20480, 17, 0, 0))):
-        yield (f"not in a call refused 2, {name} one short", fill(1, 0, hx("DD") * 4) + lend(lengths) + dispatcher(**waits)
-               + dispatched(2) + K + show(1, 0, 4), ["R 2", "R 2", seen(**waits), "X DD DD DD DD"])
-    yield ("nor with line one short", lend((18, 18, 0, 0)) + lend_line(127) + dispatched(1) + K + show(1, 0, 4) + lend_line(128),
-           ["R 2", seen(**waits), "X DD DD DD DD"])
-    yield ("nor in one refused 3", dispatcher(closed=4, **waits) + dispatched(1) + K + show(1, 0, 4),
-           ["R 3", seen(closed=4, **waits), "X DD DD DD DD"])
-    for data, line in ((hx("00 00"), "E0 03 47 0F 7E"), (hx("7E 7E"), "05 00 00 6A FF 7E")):
-        yield (f"{data.hex(' ')} as it goes on the line", dispatching(limit=16) + dispatch_high(data)
-               + dispatched(len(hx(line)) + 1),
-               ["D", *sent(hx(line)), "I"])
-    for width in WIDTHS:
-        line = block_line(TWO, width)
-        yield (f"limit 2, {width} bits", dispatching(width=width, limit=2) + dispatch_high(TWO) + dispatch_high(hx("41 42 43"))
-               + dispatched(1) + K + dispatched(len(line)),
-               ["D", "R 1", f"O {line[0]:02X}", seen(width=width, limit=2, high=(len(line) - 2, 0), left=len(line) - 2, zeros=1,
-                                                     line=2,
-                                                    first=1), *sent(line[1:]), "I"])
-
-
-def rule_before_step_2():
-    """Once three high packets closed since a suspension, low resumes even if more wait."""
-    ready = dispatching() + fill(1, 0, hx("41 42 EF 31")) + low_frame(hx("31") * 90) + fill(LINE_AREA, 0, TWO)
-    yield "known octets", ready, []
-    suspended = dict(low=(90, 7), suspended=1)
-    for closed in range(3):
-        yield (f"suspended, {closed} closed: high goes on", dispatcher(high=(4, 0), closed=closed, **suspended) + dispatched(1) + K,
-               ["O 05", seen(high=(4, 0), left=4, zeros=1, line=2, closed=closed, **suspended)])
-    yield ("suspended, 3 closed: low resumes", dispatcher(high=(4, 0), closed=3, **suspended) + dispatched(1) + K,
-           ["O D1", seen(low=(90, 7), high=(4, 0), line=1, grace=64)])
-    yield ("though eight wait", dispatcher(waiting=8, lengths=dict.fromkeys(range(8), 2), closed=3, **suspended) + dispatched(1)
-           + K,
-           ["O D1", seen(low=(90, 7), high=(4, 0), line=1, grace=64, first=1, waiting=7, lengths=dict.fromkeys(range(1, 8), 2))])
-    for closed in range(4):
-        yield (f"suspended, {closed} closed, no high packet: low resumes as in 01", dispatcher(closed=closed, **suspended)
-               + dispatched(1) + K, ["O D1", seen(low=(90, 7), line=1, grace=64)])
-    for settings in (0, 1, 2, 0xFC, 0xFF):
-        yield (f"suspended, 3 closed, settings {settings:02X}: low resumes",
-               dispatcher(settings=settings, high=(4, 0), closed=3, **suspended)
-               + dispatched(1) + K, ["O D1", seen(settings=settings, low=(90, 7), high=(4, 0), line=1, grace=64)])
-    yield ("low not suspended, 3 closed: high goes first", dispatcher(low=(90, 0), high=(4, 0), closed=3) + dispatched(1) + K,
-           ["O 05", seen(low=(90, 0), high=(4, 0), left=4, zeros=1, line=2, closed=3)])
-    yield ("low begun but not suspended, 3 closed: high goes first", dispatcher(low=(90, 7), high=(4, 0), closed=3)
-           + dispatched(1) + K,
-           ["O 05", seen(low=(90, 7), high=(4, 0), left=4, zeros=1, line=2, closed=3)])
-    yield ("high on the line, 3 closed: it goes on to its flag, then low resumes",
-           dispatcher(high=(4, 2), left=2, zeros=1, line=2, closed=3, waiting=1,
-                                                                                      lengths={0: 2}, **suspended)
-           + dispatched(3) + K + dispatched(1) + K,
-           ["O EF", "O 31", "O 7E", seen(closed=3, waiting=1, lengths={0: 2}, **suspended), "O D1",
-            seen(low=(90, 7), high=(4, 0), line=1, grace=64, first=1)])
-    yield ("no lane at all, 3 closed: Idle", dispatcher(closed=3, grace=64) + dispatched(1) + K, ["I", seen(closed=3, grace=64)])
-    yield ("resumed with nothing left: closed at once", dispatcher(low=(90, 91), high=(4, 0), suspended=1, closed=3)
-           + dispatched(2) + K,
-           ["O D1", "O 7E", seen(high=(4, 0))])
-
-
-def rule_before_step_4():
-    """After D1 low has 64 octets, or to its closing flag, before it can be broken off again."""
-    both = dict(low=(90, 7), high=(4, 0), line=1)
-    for grace in (0, 1, 2, 63, 64):
-        went = dict(suspended=1, line=0) if grace == 0 else dict(low=(90, 8), left=8, zeros=1, grace=grace - 1)
-        yield (f"inside a block, {grace} octets", dispatcher(**both, left=9, zeros=1, grace=grace) + dispatched(1) + K,
-               ["O 7E" if grace == 0 else "O 31", seen(**{**both, **went})])
-        went = dict(cut=1) if grace == 0 else dict(left=83, zeros=1, grace=grace - 1)
-        yield (f"between blocks, {grace} octets", dispatcher(**both, grace=grace) + dispatched(1) + K,
-               ["O 02" if grace == 0 else "O 54", seen(**{**both, **went})])
-    low = b"1" * 300
-    yield ("64 octets behind D1, the code among them", low_frame(low) + dispatcher(low=(300, 0), high=(4, 0), suspended=1, closed=3)
-           + dispatched(1) + K + dispatched(63) + K + dispatched(1) + K + dispatched(1) + K,
-           ["O D1", seen(low=(300, 0), high=(4, 0), line=1, grace=64), "O D0", *["O 31"] * 62,
-            seen(low=(300, 62), high=(4, 0), left=145, line=1, grace=1), "O 31",
-            seen(low=(300, 63), high=(4, 0), left=144, line=1), "O 7E", seen(low=(300, 63), high=(4, 0), suspended=1)])
-    yield ("02 where they end with a block", low_frame((b"1" * 31 + bytes(1)) * 4)
-           + dispatcher(settings=2, low=(128, 0), high=(4, 0), suspended=1, closed=3) + dispatched(67) + K,
-           ["O D1", *["O 20", *["O 31"] * 31] * 2, "O 02", "O 7E", seen(settings=2, low=(128, 64), high=(4, 0), suspended=1)])
-    yield ("codes alone are octets too", low_frame(bytes(200)) + dispatcher(settings=2, low=(200, 0), high=(4, 0), suspended=1,
-                                                                            closed=3)
-           + dispatched(67) + K, ["O D1", *["O 01"] * 64, "O 02", "O 7E",
-                                  seen(settings=2, low=(200, 64), high=(4, 0), suspended=1)])
-    yield ("and run codes", low_frame(bytes(1200)) + dispatcher(low=(1200, 0), high=(4, 0), suspended=1, closed=3)
-           + dispatched(67) + K,
-           ["O D1", *["O DF"] * 64, "O 02", "O 7E", seen(low=(1200, 960), high=(4, 0), suspended=1)])
-    yield ("its closing flag before they end", low_frame(b"1" * 300) + dispatcher(low=(90, 80), high=(4, 0), suspended=1, closed=3)
-           + dispatched(12) + K + dispatched(1) + K, ["O D1", "O 0B", *["O 31"] * 10,
-                                                      seen(low=(90, 91), high=(4, 0), line=1, grace=53), "O 7E",
-                                                    seen(high=(4, 0))])
-    yield ("the next low packet has none of them", dispatch_low(TWO) + dispatched(7) + K + dispatched(1) + dispatch_high(TWO)
-           + dispatched(1) + K,
-           ["D", *sent(hx("05 41 42 EF 31 7E") + hx("05")), seen(low=(4, 0), left=4, zeros=1, line=1), "O 41", "D", "O 7E",
-            seen(low=(4, 1), high=(4, 0), suspended=1, first=1)])
-    yield ("a low packet just begun may be broken off behind its first code", dispatching() + dispatch_low(TWO) + dispatched(1)
-           + dispatch_high(TWO) + dispatched(1) + K, ["D", "O 05", "D", "O 7E",
-                                                      seen(low=(4, 0), high=(4, 0), suspended=1, first=1)])
-    yield ("a cut that is due comes, whatever is left", dispatcher(**both, cut=1, closed=2, grace=9) + dispatched(1) + K,
-           ["O 7E", seen(low=(90, 7), high=(4, 0), suspended=1)])
-    yield ("with no high packet nothing breaks off, and they are counted", low_frame(b"1" * 90)
-           + dispatcher(low=(90, 7), left=9, zeros=1, line=1, grace=2) + dispatched(1) + K + dispatched(1) + K + dispatched(1) + K,
-           ["O 31", seen(low=(90, 8), left=8, zeros=1, line=1, grace=1), "O 31", seen(low=(90, 9), left=7, zeros=1, line=1),
-            "O 31", seen(low=(90, 10), left=6, zeros=1, line=1)])
-    for settings in (0, 1, 0xFD):
-        yield (f"settings {settings:02X}: never broken off, and they are counted",
-               dispatcher(settings=settings, **both, left=9, grace=1)
-               + dispatched(2) + K, ["O 31", "O 31", seen(settings=settings, low=(90, 9), high=(4, 0), line=1, left=7)])
-    yield ("a low packet put on the line with some handed in", dispatcher(low=(90, 0), grace=2) + dispatched(1) + K,
-           ["O 5B", seen(low=(90, 0), left=90, zeros=1, line=1, grace=1)])
-
-
-def dispatcher_counts():
-    """Closed and grace: what each event does to them, from states handed in."""
-    area = fill(1, 0, hx("41 42 EF 31"))
-    yield "known octets", area + low_frame(b"1" * 90), []
-    for closed in range(4):
-        for grace in (0, 9):
-            name, given = f"closed {closed}, grace {grace}", dict(closed=closed, grace=grace)
-            yield (f"high's closing flag, low suspended, {name}", dispatcher(low=(90, 7), high=(4, 5), line=2, suspended=1, **given)
-                   + dispatched(1) + K, ["O 7E", seen(low=(90, 7), suspended=1, closed=min(3, closed + 1), grace=grace)])
-            yield (f"high's closing flag, low loaded, {name}", dispatcher(low=(90, 7), high=(4, 5), line=2, **given)
-                   + dispatched(1) + K,
-                   ["O 7E", seen(low=(90, 7), **given)])
-            yield (f"high's closing flag, low empty, {name}", dispatcher(high=(4, 5), line=2, **given) + dispatched(1) + K,
-                   ["O 7E", seen(**given)])
-            yield (f"another octet of high, {name}", dispatcher(low=(90, 7), high=(4, 0), line=2, left=4, zeros=1, suspended=1,
-                                                                **given)
-                   + dispatched(1) + K, ["O 41", seen(low=(90, 7), high=(4, 1), line=2, left=3, zeros=1, suspended=1, **given)])
-            yield (f"a code of high, {name}", dispatcher(high=(4, 0), **given) + dispatched(1) + K,
-                   ["O 05", seen(high=(4, 0), line=2, left=4, zeros=1, **given)])
-            yield (f"step 1's flag, {name}", dispatcher(low=(90, 7), line=1, cut=1, **given) + dispatched(1) + K,
-                   ["O 7E", seen(low=(90, 7), suspended=1)])
-            yield (f"D1, {name}", dispatcher(low=(90, 7), suspended=1, **given) + dispatched(1) + K,
-                   ["O D1", seen(low=(90, 7), line=1, grace=64)])
-            yield (f"a code of low, {name}", dispatcher(low=(90, 7), **given) + dispatched(1) + K,
-                   ["O 54", seen(low=(90, 7), line=1, left=83, zeros=1, closed=closed, grace=max(0, grace - 1))])
-            yield (f"data of low, {name}", dispatcher(low=(90, 7), line=1, left=83, zeros=1, **given) + dispatched(1) + K,
-                   ["O 31", seen(low=(90, 8), line=1, left=82, zeros=1, closed=closed, grace=max(0, grace - 1))])
-            yield (f"low's closing flag, {name}", dispatcher(low=(90, 91), line=1, **given) + dispatched(1) + K,
-                   ["O 7E", seen(closed=closed)])
-            yield (f"Idle, {name}", dispatcher(**given) + dispatched(1) + K, ["I", seen(**given)])
-        yield (f"step 4's flag, closed {closed}", dispatcher(low=(90, 7), high=(4, 0), line=1, left=83, zeros=1, closed=closed)
-               + dispatched(1) + K, ["O 7E", seen(low=(90, 7), high=(4, 0), suspended=1)])
-        yield (f"02, closed {closed}", dispatcher(low=(90, 7), high=(4, 0), line=1, closed=closed) + dispatched(1) + K,
-               ["O 02", seen(low=(90, 7), high=(4, 0), line=1, cut=1, closed=closed)])
-    yield ("closed up to 3 by three packets, from fresh", dispatching() + dispatch_low(TWO) + dispatched(1) + dispatch_high(TWO) * 4
-           + dispatched(1) + (dispatched(6) + K) * 3 + dispatched(1) + K,
-           ["D", "O 05", *["D"] * 4, "O 7E", *[line for n in range(1, 4) for line in (*sent(HIGH_LINE), seen(
-               low=(4, 0), suspended=1, closed=n, first=n, waiting=4 - n, lengths=dict.fromkeys(range(n, 4), 2)))],
-            "O D1", seen(low=(4, 0), high=(4, 0), line=1, grace=64, first=4)])
-    yield ("two closed and no more waiting: low resumes, and the count begins anew", dispatching() + dispatch_low(b"1" * 90)
-           + dispatched(1)
-           + dispatch_high(TWO) * 2 + dispatched(13) + K + dispatched(1) + K + dispatched(64) + K + dispatch_high(TWO)
-           + dispatched(1) + K,
-           ["D", "O 5D", "D", "D", "O 7E", *sent(HIGH_LINE * 2), seen(low=(92, 0), suspended=1, closed=2, first=2), "O D1",
-            seen(low=(92, 0), line=1, grace=64, first=2), "O 5D", *["O 31"] * 63,
-            seen(low=(92, 63), left=29, zeros=1, line=1, first=2),
-            "D", "O 7E", seen(low=(92, 63), high=(4, 0), suspended=1, first=3)])
-
-
-def as_dispatcher(state, **own):
-    """A sender's state as `s` has it, with a line that is empty or has what is said."""
-    return b"Q" + state[1:] + b"".join(bytes((n % 256, n // 256)) for n in numbers_of(**own)[12:])
-
-
-def at_and_beyond():
-    """Clause; numbers at its edge; numbers beyond it."""
-    def lengths(*given):
-        return [dict(limit=20, first=6, waiting=3, lengths={6: 2, 7: 20, 0: 9, **one}) for one in given]
-
-    yield "first place at most 7", [dict(first=n) for n in (0, 1, 7)], [dict(first=n) for n in (8, 9, 255)]
-    yield ("at most 8 wait", [dict(waiting=n, lengths=dict.fromkeys(range(8), 2)) for n in (0, 1, 7, 8)],
-           [dict(waiting=n, lengths=dict.fromkeys(range(8), 2)) for n in (9, 16, 255)])
-    yield "at most 3 closed", [dict(closed=n) for n in (0, 1, 2, 3)], [dict(closed=n) for n in (4, 5, 255)]
-    yield "at most 64 octets", [dict(grace=n) for n in (0, 1, 63, 64)], [dict(grace=n) for n in (65, 66, 128, 255)]
-    yield ("waiting lengths 2 to the limit", lengths({6: 2}, {6: 20}, {7: 2}, {7: 19}, {0: 2}, {0: 20}),
-           lengths({6: 1}, {6: 0}, {6: 21}, {7: 1}, {7: 21}, {7: 65535}, {0: 0}, {0: 1}, {0: 21}, {0: 22}))
-    yield ("lengths where none waits, any", lengths({1: 0}, {1: 1}, {1: 2}, {1: 20}, {1: 21}, {5: 65535}, {2: 1, 3: 21, 4: 65535}),
-           [])
-    for limit in (2, 16384):
-        yield (f"waiting lengths, limit {limit}", [dict(limit=limit, waiting=1, lengths={0: n}) for n in (2, limit)],
-               [dict(limit=limit, waiting=1, lengths={0: n}) for n in (0, 1, limit + 1)])
-    for place in range(8):
-        yield (f"the length at place {place} of eight", [dict(limit=20, first=place, waiting=8,
-                                                              lengths=dict.fromkeys(range(8), 20))],
-               [dict(limit=20, first=(place + n) % 8, waiting=8, lengths={**dict.fromkeys(range(8), 20), place: wrong})
-                for n in (0, 1, 7) for wrong in (1, 21)])
-    yield ("whatever low does: closed and grace", [dict(closed=3, grace=64, **numbers) for numbers in (
-        dict(), dict(low=(90, 7)), dict(low=(90, 7), suspended=1), dict(low=(90, 7), line=1, left=3), dict(high=(4, 1), line=2))],
-        [])
-
-
-def dispatcher_bounds():
-    """Each state through the low load, the high one and next octet."""
-    yield "long areas", lend((20480,) * 4) + lend_line(131072), []
-    for clause, at, beyond in at_and_beyond():
-        for states, refused in ((at, False), (beyond, True)):
-            for n, numbers in enumerate(states, 1):
-                commands = b"".join(dispatcher(**numbers) + call for call in (dispatch_low(TWO), dispatch_high(TWO), dispatched(1)))
-                yield (f"{'beyond' if refused else 'at'} {n}: {clause}", commands + K * refused,
-                       ["R 3"] * 3 + [seen(**numbers)] if refused else "no R 3")
-    for clause, at, beyond in SENDER_CLAUSES:
-        for states, refused in ((at, False), (beyond, True)):
-            for n, state in enumerate(states, 1):
-                commands = b"".join(as_dispatcher(state, first=3) + call for call in (dispatch_low(TWO), dispatch_high(TWO),
-                                                                                      dispatched(1)))
-                yield (f"the sender's, {'beyond' if refused else 'at'} {n}: {clause}", commands,
-                       "R 3, R 3, R 3" if refused else "no R 3")
-    yield "areas for 2,048 again", DEFAULT_LENGTHS + lend_line(16384), []
-
-
-def dispatcher_orders():
-    """3 by width or limit, 2, 3 by the rest, then 4 or 22, then 1."""
-    full = dict(waiting=8, lengths=dict.fromkeys(range(8), 2))
-    calls = dispatch_low(ONE) + dispatch_high(ONE) + dispatched(1)
-    for name, wrong in (("width 24", dict(width=24)), ("width 0", dict(width=0)), ("limit 1", dict(limit=1)),
-                        ("limit 0", dict(limit=0)),
-                        ("limit 16,385", dict(limit=16385)), ("limit 65,535", dict(limit=65535)),
-                        ("both", dict(width=17, limit=1))):
-        for lent_name, lengths, line in (("nothing lent", (0,) * 4, 0), ("all lent", (20480,) * 4, 131072)):
-            for state_name, numbers in (("fresh", dict()), ("out of bounds", dict(first=8, low=(3, 0))),
-                                        ("full", dict(low=(4, 0), **full))):
-                yield (f"3 by {name}, {lent_name}, {state_name}", lend(lengths) + lend_line(line) + dispatcher(**numbers, **wrong)
-                       + calls + K,
-                       ["R 3"] * 3 + [seen(**numbers, **wrong)])
-    yield "exactly lent", DEFAULT_LENGTHS + lend_line(16384), []
-    for name, lengths, line, answers in (
-            ("low", (2049, 2050, 0, 0), 16384, "R 2, R 3, R 2"), ("high", (2050, 2049, 0, 0), 16384, "R 3, R 3, R 2"),
-            ("line", (2050, 2050, 0, 0), 16383, "R 3, R 2, R 2"), ("none", (2050, 2050, 0, 0), 16384, "R 3, R 3, R 3"),
-            ("all", (2049, 2049, 0, 0), 16383, "R 2, R 2, R 2")):
-        for state_name, numbers in (("first 8", dict(first=8)), ("low length 3", dict(low=(3, 0))), ("closed 4", dict(closed=4)),
-                                    ("full and grace 65", dict(grace=65, low=(4, 0), **full))):
-            yield (f"2 before 3, {name} short, {state_name}", lend(lengths) + lend_line(line) + dispatcher(**numbers) + calls,
-                   answers)
-    yield ("2 before 4, 22 and 1", lend((2049, 2050, 0, 0)) + lend_line(16383) + dispatcher(low=(4, 0), **full) + dispatch_low(ONE)
-           + dispatch_low(TWO) + dispatch_high(ONE) + dispatch_high(TWO) + DEFAULT_LENGTHS + lend_line(16384), "R 2, R 2, R 2, R 2")
-    yield ("3 before 4, 22 and 1", dispatcher(low=(4, 0), closed=4, **full) + dispatch_low(ONE) + dispatch_low(TWO)
-           + dispatch_high(ONE)
-           + dispatch_high(TWO), "R 3, R 3, R 3, R 3")
-    yield ("a waiting length that 1 refuses, before 22", dispatcher(waiting=8, lengths={**dict.fromkeys(range(8), 2), 5: 1})
-           + dispatch_high(TWO), "R 3")
-    yield ("22 before 1", dispatcher(**full) + dispatch_high(b"") + dispatch_high(ONE) + dispatch_high(b"A" * 2049),
-           "R 22, R 22, R 22")
-    yield ("1 last", dispatcher(waiting=7, lengths=dict.fromkeys(range(8), 2)) + dispatch_high(b"") + dispatch_high(ONE)
-           + dispatch_high(b"A" * 2049) + dispatch_high(TWO), "R 1, R 1, R 1, D")
-    yield ("22 with seven waiting never", dispatcher(waiting=7, high=(4, 0), lengths=dict.fromkeys(range(8), 2))
-           + dispatch_high(TWO)
-           + dispatch_high(TWO), "D, R 22")
-
-
-def dispatcher_areas():
-    for limit, width, frame, *_ in BOUNDS:
-        calls = open_dispatcher(3, width, limit) + dispatch_low(TWO) + dispatch_high(TWO) + dispatched(1)
-        begin = "O 05" if width == 16 else "O 07"
-        for name, lengths, line, answers in (
-                ("exactly long enough", (frame, frame), 8 * limit, f"D, D, {begin}"),
-                ("low one short", (frame - 1, frame), 8 * limit, "R 2, D, R 2"),
-                ("high one short", (frame, frame - 1), 8 * limit, "D, D, R 2"),
-                ("line one short", (frame, frame), 8 * limit - 1, "D, R 2, R 2"),
-                ("line longer", (frame + 1, frame + 1), 8 * limit + 1, f"D, D, {begin}"),
-                ("line of none", (frame, frame), 0, "D, R 2, R 2"),
-                ("as much as there is", (65535, 65535), 4294967295, f"D, D, {begin}")):
-            if line <= 131072 or line > 131073:
-                yield f"limit {limit}, {width} bits, {name}", lend((*lengths, 0, 0)) + lend_line(line) + calls, answers
-    for length, answer in ((131071, "R 2"), (131072, "D"), (131073, "D"), (65536, "R 2"), (65535, "R 2"), (16777216, "D"),
-                           (4294967295, "D"), (4294901760, "D")):
-        yield f"limit 16,384, {length} of line", open_dispatcher(3, 16, LONGEST) + lend_line(length) + dispatch_high(TWO), answer
-    yield ("L leaves what is lent of the others, and a and A what is lent of it", lend(lent(16)) + lend_out(5) + lend_line(16383)
-           + send_plain(TWO) + open_sender(3) + load_low(TWO) + lend(lent(16)) + lend_out(2051) + open_dispatcher(3)
-           + dispatch_high(TWO)
-           + lend_line(16384) + dispatch_high(TWO), ["W 5 41 42 EF 31 7E", "D", "R 2", "D"])
-
-
-def line_area():
-    yield "in steps of 16", fill(LINE_AREA, 0, bytes(range(1, 41)) + bytes(9)) + show(LINE_AREA, 1, 3) + show(LINE_AREA, 2, 9), [
-        "X 11 12 13", "X 21 22 23 24 25 26 27 28 00"]
-    yield ("put in at a step", fill(LINE_AREA, 1, hx("AA BB")) + show(LINE_AREA, 0, 20),
-           [shown(bytes(range(1, 17)) + hx("AA BB 13 14"))])
-    yield ("its end", fill(LINE_AREA, 8191, hx("C0") * 15 + hx("C1 DD DD")) + show(LINE_AREA, 8191, 65535)
-           + show(LINE_AREA, 8192, 1)
-           + show(LINE_AREA, 65535, 65535) + show(LINE_AREA, 8191, 0), [shown(hx("C0") * 15 + hx("C1")), "X", "X", "X"])
-    yield ("f from beyond its end on", fill(LINE_AREA, 8192, hx("DD")) + fill(LINE_AREA, 65535, hx("DD") * 9)
-           + show(LINE_AREA, 8191, 20) + show(LINE_AREA, 0, 3), [shown(hx("C0") * 15 + hx("C1")), "X 01 02 03"])
-    yield ("beyond what a number reaches in the others", fill(LINE_AREA, 4096, hx("77 78")) + show(LINE_AREA, 4096, 3)
-           + show(LINE_AREA, 0, 3) + show(OUT_AREA, 4096, 3), ["X 77 78 00", "X 01 02 03", "X 00 00 00"])
-    yield ("nothing goes over into another area", b"".join(fill(area, 0, bytes((0xA0 + area,))) for area in range(6))
-           + fill(OUT_AREA, 40959, hx("C4 DD DD")) + fill(LINE_AREA, 8191, hx("C5") * 40)
-           + b"".join(show(area, 0, 1) for area in range(6)) + show(LINE_AREA, 8191, 17),
-           ["X A0", "X A1", "X A2", "X A3", "X A4", "X A5", shown(hx("C5") * 16)])
-    for length in (0, 1, 16384, 131071, 131072, 4294967295):
-        yield (f"{length} lent, f and x on the whole", lend_line(length) + fill(LINE_AREA, 8191, hx("B0 B1"))
-               + show(LINE_AREA, 8191, 3),
-               ["X B0 B1 C5"])
-    yield ("area 6 is not there yet", fill(6, 0, hx("DD DD")) + show(6, 0, 2) + show(6, 4096, 65535) + show(LINE_AREA, 0, 2),
-           ["X", "X", "X A5 02"])
-    yield ("octets changed while a packet waits are what is sent", dispatching(limit=16) + dispatch_high(hx("43 44")) * 2
-           + fill(LINE_AREA, 0, TWO) + dispatched(1) + fill(LINE_AREA, 0, hx("99 99")) + dispatched(5) + fill(LINE_AREA, 1, TWO)
-           + dispatched(6) + show(LINE_AREA, 0, 2), ["D", "D", *sent(HIGH_LINE * 2), "X 99 99"])
-
-
-def apart_from_the_sender():
-    yield ("openings", open_sender(1, 32, 20) + open_dispatcher(2, 16, 30) + D + K,
-           ["S 1 0 0 0 0 0 0 0 0 0 32 20", *receiver_line(), seen(settings=2, limit=30)])
-    yield ("states", sender(low=(9, 2), suspended=1) + dispatcher(high=(9, 2), closed=1) + D + K,
-           ["S 3 9 2 0 0 0 0 0 1 0 16 2048", *receiver_line(), seen(high=(9, 2), closed=1)])
-    yield ("loads and octets", dispatching() + open_sender(3) + dispatch_low(TWO) + load_low(hx("43 44")) + dispatched(2)
-           + next_octets(2)
-           + dispatch_high(TWO) + D + K, ["D", "D", "O 05", "O 43", "O 05", "O 43", "D", "S 3 4 1 0 0 3 1 1 0 0 16 2048",
-                                          *receiver_line(),
-                                          seen(low=(4, 1), left=3, zeros=1, line=1, waiting=1, lengths={0: 2})])
-    yield ("the sender is under no rule", sender(low=(90, 7), high=(4, 0), suspended=1) + fill(1, 0, hx("41 42 EF 31"))
-           + dispatcher(low=(90, 7), high=(4, 0), suspended=1, closed=3, grace=64) + next_octets(1)
-           + sender(low=(90, 7), high=(4, 0), line=1)
-           + next_octets(2), "O 05, O 02, O 7E")
-    yield ("nor does its high load wait", open_sender(3) + load_high(TWO) + load_high(TWO) + D,
-           ["D", "R 4", "S 3 0 0 4 0 0 0 0 0 0 16 2048", *receiver_line()])
-
-
-def receiver_line():
-    return ["T 0 0 0 0 0 0 0 0 0 0 16 2048 65535 0 0 0 0"]
-
-
-def dispatcher_format():
-    yield ("numbers too large: remainders for the sender's, the largest for the others", hand_dispatcher((65535,) * 24) + K,
-           ["K 255 65535 65535 65535 65535 255 255 0 1 1 255 65535 255 255 65535 65535 65535 65535 65535 65535 65535 65535 255 255"])
-    yield ("one below", hand_dispatcher((65534,) * 24) + K,
-           ["K 254 65534 65534 65534 65534 254 254 2 0 0 254 65534 255 255 65534 65534 65534 65534 65534 65534 65534 65534 255 255"])
-    yield ("256", hand_dispatcher((256,) * 24) + K,
-           ["K 0 256 256 256 256 0 0 1 0 0 0 256 255 255 256 256 256 256 256 256 256 256 255 255"])
-    yield ("255 and 257", hand_dispatcher((255, 257) * 12) + K,
-           ["K 255 257 255 257 255 1 255 2 1 1 255 257 255 255 255 257 255 257 255 257 255 257 255 255"])
-    yield ("1 to 24", hand_dispatcher(range(1, 25)) + K, ["K 1 2 3 4 5 6 7 2 1 0 11 12 13 14 15 16 17 18 19 20 21 22 23 24"])
-    yield ("a full octet is no remainder: 256 places, packets, octets", DEFAULT_LENGTHS + lend_line(16384) + b"".join(
-        dispatcher(**{name: 256}) + dispatched(1) for name in ("first", "waiting", "closed", "grace")), "R 3, R 3, R 3, R 3")
-    yield "k of none", dispatched(0), []
-
-
-def dispatcher_joined():
-    """A receiver of the same settings reads what a dispatcher sends: a low packet held again and again, and the high ones."""
-    low, data, urgent = b"1" * 200, b"1" * 63, HIGH_LINE * 3
-    line = b"".join((hx("CB 7E"), urgent, hx("D1 CB"), data, FLAG, urgent, hx("D1 8C"), data, FLAG, urgent, hx("D1 4D"), data,
-                     FLAG, urgent,
-                     hx("D1 0E"), b"1" * 11, fcs(low), FLAG))
-    packets = ["P 1 2 41 42"] * 3
-    yield ("200 times 31 and twelve high packets", open_receiver(3) + receive(line),
-           ["H 0 0", *packets, "H 63 0", *packets, "H 126 0", *packets, "H 189 0", *packets, packet_line(0, low)])
-    low, urgent = hx("31 32 33"), [hx("51 52"), hx("53 54 55"), hx("56 57"), hx("58 59"), hx("5A 5B")]
-    for width in WIDTHS:
-        frame, high = low + fcs(low, width), [block_line(data, width) for data in urgent]
-        first = bytes((len(frame) + 1,))
-        yield (f"five waiting packets, {width} bits: three, the low one, two", dispatching(width=width, limit=20)
-               + dispatch_low(low)
-               + dispatched(2) + b"".join(map(dispatch_high, urgent)) + dispatched(1 + sum(map(len, high)) + len(frame) + 3) + K,
-               ["D", *sent(first + low[:1]), *["D"] * 5, *sent(
-                   FLAG + b"".join(high[:3]) + b"\xd1" + bytes((len(frame),)) + frame[1:] + FLAG + b"".join(high[3:])), "I",
-                seen(width=width, limit=20, first=5)])
-
-
-DISPATCHER_TABLE = [
-    ("the start", dispatcher_start),
-    ("slip 10's examples", dispatcher_examples),
-    ("openings", dispatcher_openings),
-    ("high load", dispatcher_high_loads),
-    ("low load", dispatcher_low_loads),
-    ("the first waiting is loaded", dispatcher_loads_first),
-    ("the rule before step 2", rule_before_step_2),
-    ("the rule before step 4", rule_before_step_4),
-    ("closed and grace", dispatcher_counts),
-    ("in bounds", dispatcher_bounds),
-    ("order of the call refusals", dispatcher_orders),
-    ("lent areas", dispatcher_areas),
-    ("the area line", line_area),
-    ("apart from the sender", apart_from_the_sender),
-    ("the script's own format", dispatcher_format),
-    ("what a receiver is told", dispatcher_joined),
-]
-
-
 # --- Small scripts: commands, and every line that they give. A script ends at `E`, so each such case has its own.
 LONG = 65535
 EXAMPLE = open_sender(3) + load_low(hx("00 00")) + next_octets(6)
@@ -3797,13 +3139,6 @@ SCRIPTS = {
     "cut-plain": (send_plain(hx("41 42")) + send_plain(hx("41 42"))[:-1], ["W 5 41 42 EF 31 7E", "E"]),
     "cut-show": (show(0, 0, 1)[:-1], ["E"]),
     "cut-letter": (D + b"A", [*FRESH, "E"]),
-    "cut-dispatcher": (hand_dispatcher((3,) * 24)[:-1], ["E"]),
-    "cut-dispatcher-opening": (open_dispatcher(3, 16, 20) + K + open_dispatcher(3, 16, 1)[:-1],
-                               ["K 3 0 0 0 0 0 0 0 0 0 16 20" + " 0" * 12, "E"]),
-    "cut-line-length": (lend_line(16383)[:-1], ["E"]),
-    "cut-low": (dispatch_low(TWO) + dispatch_low(TWO)[:-1], ["D", "E"]),
-    "cut-waiting": (dispatch_high(TWO) * 8 + dispatch_high(TWO)[:-1], [*["D"] * 8, "E"]),
-    "cut-dispatched": (dispatch_high(TWO) + dispatched(1) + dispatched(2)[:-1], ["D", "O 05", "E"]),
     # Counts as large as they can be.
     "long-operands": (
         lend((LONG,) * 4) + lend_out(LONG) + fill(0, 0, hx("A5") * LONG) + show(0, 20478, LONG) + show(1, 0, 2)
@@ -3819,7 +3154,7 @@ SCRIPTS = {
 # ------------------------------------------------------------------------------------------------
 
 def answers_of(lines):
-    return [line for line in lines if line[0] not in "STXK"]
+    return [line for line in lines if line[0] not in "STX"]
 
 
 def as_asked(asked, lines):
@@ -3871,7 +3206,7 @@ def table_script(programs, label, groups, explain):
 def write_scripts(programs, folder, explain):
     scripts, wrong = {}, 0
     for name, groups in (("base", BASE), ("width", WIDTH_TABLE), ("limit", LIMIT_TABLE), ("restart", RESTART_TABLE),
-                         ("areas", AREAS_TABLE), ("plain", PLAIN_TABLE), ("dispatcher", DISPATCHER_TABLE)):
+                         ("areas", AREAS_TABLE), ("plain", PLAIN_TABLE)):
         scripts[name], faults = table_script(programs, name, groups, explain)
         wrong += faults
     for name, (commands, asked) in SCRIPTS.items():

@@ -1,16 +1,14 @@
-"""The worked examples of document 01, and examples of slips 1, 11, 4, 8, 5 and 10 of document 02, held
-against model.rs; and slip 10's bound, over random loads:
+"""The worked examples of document 01, and examples of slips 1, 11, 4, 8 and 5 of document 02, held
+against model.rs:
 
     python3 worked.py MODEL
 """
-import random
 import subprocess
 import sys
 import zlib
 
-from compare import (Agreed, dispatch_high, dispatch_low, dispatched, fcs, fill, halves, hand_dispatcher, hand_plain_sender,
-                     hand_receiver, lend, lend_line, lend_out, lent, marks, open_dispatcher, open_pair, open_receiver, open_sender,
-                     packet, register_over, send_plain, sent_octets, show, stuffed)
+from compare import (fcs, fill, halves, hand_plain_sender, hand_receiver, lend, lend_out, lent, marks, open_pair, open_receiver,
+                     open_sender, register_over, send_plain, show, stuffed)
 
 MODEL = sys.argv[1]
 
@@ -300,148 +298,6 @@ check("slip 5: captures read plain", run("capture", hx("FF 03 C0 21 7E") + LINE)
 check("slip 5: counted", run("count", hx("FF 03 C0 21 7E 7D 7E") + LINE),
       "packets 1\nheld 0\nheld-replaced 0\n" + "".join(
           f"refused-{n} {int(n in (14, 18))}\n" for n in (*range(5, 15), 18, 21)))
-
-# Slip 10, the dispatcher: settings 03, 16 bits, packets to 2,048; high packets 41 42
-HIGH = "05 41 42 EF 31 7E"
-
-
-def octets_sent(lines):
-    return " ".join(line[2:] for line in lines if line[0] == "O")
-
-
-def under_load(settings, low, calls, width=16, limit=2048):
-    """The octets of a low packet of which one is sent before the first high load, and then one high load before every call."""
-    out = run("exercise", lend(lent(width, limit)) + lend_line(8 * limit) + open_dispatcher(settings, width, limit)
-              + dispatch_low(low) + dispatched(1) + (dispatch_high(b"AB") + dispatched(1)) * (calls - 1))
-    return octets_sent(out.splitlines())
-
-
-def dispatcher(sender=(3, *[0] * 9, 16, 2048), first=0, waiting=0, lengths=(0,) * 8, closed=0, grace=0):
-    return hand_dispatcher((*sender, first, waiting, *lengths, closed, grace))
-
-
-check("slip 10: 31 31, three high packets, the rest, and on", under_load(3, b"11", 29),
-      f"05 7E {HIGH} {HIGH} {HIGH} D1 05 31 31 37 80 7E 05 41")
-long_one = under_load(3, b"1" * 200, 288)
-check("slip 10: 200 times 31, 288 octets", long_one, " ".join((
-    "CB 7E", *[HIGH] * 3, "D1 CB" + " 31" * 63 + " 7E", *[HIGH] * 3, "D1 8C" + " 31" * 63 + " 7E", *[HIGH] * 3,
-    "D1 4D" + " 31" * 63 + " 7E", *[HIGH] * 3, "D1 0E" + " 31" * 11, fcs(b"1" * 200).hex(" ").upper(), "7E")))
-check("slip 10: 12 of them closed", long_one.count(HIGH), 12)
-blocks = under_load(2, (b"1" * 15 + b"\0") * 20, 2 + 18 * 6 + 5 * (1 + 64 + 2) + 5)
-check("slip 10: settings 02, 20 times fifteen 31 and a zero", blocks, " ".join((
-    "10 7E", *([HIGH] * 3 + ["D1" + (" 10" + " 31" * 15) * 4 + " 02 7E"]) * 5, *[HIGH] * 3, "D1 03",
-    fcs((b"1" * 15 + b"\0") * 20).hex(" ").upper(), "7E")))
-check("slip 10: 18 of them closed", blocks.count(HIGH), 18)
-for n, closed in ((62, 3), (63, 3), (64, 6), (125, 6), (126, 6), (127, 9)):
-    line = under_load(3, b"1" * (n - 2), n + 100)
-    until_closed = line[:line.index(" 7E", line.rindex("D1"))]
-    check(f"slip 10: a frame of {n}", until_closed.count(HIGH), closed)
-check("slip 10: nine high loads, then one of one octet", run("exercise", open_dispatcher(3) + dispatch_high(b"AB") * 9
-                                                             + dispatch_high(b"A")), "D\n" * 8 + "R 22\n" * 2)
-check("slip 10: a high load of 1, line of 16,383 and 16,384", run(
-    "exercise", b"".join(lend_line(length) + dispatch_high(b"A") for length in (16383, 16384))), "R 2\nR 1\n")
-for name, state, answer in (
-    ("length 1 where none waits", dispatcher(lengths=(0, 0, 0, 1, 0, 0, 0, 0)), "D"),
-    ("length 1 of the first waiting", dispatcher(first=3, waiting=1, lengths=(0, 0, 0, 1, 0, 0, 0, 0)), "R 3"),
-    ("closed 4", dispatcher(closed=4), "R 3"), ("grace 65", dispatcher(grace=65), "R 3"), ("first 8", dispatcher(first=8), "R 3"),
-    ("waiting 9", dispatcher(waiting=9, lengths=(2,) * 8), "R 3"), ("closed 3", dispatcher(closed=3), "D"),
-    ("grace 64", dispatcher(grace=64), "D"), ("first 7", dispatcher(first=7), "D"),
-    ("waiting 8", dispatcher(waiting=8, lengths=(2,) * 8), "R 22"),
-):
-    check(f"slip 10: {name}", run("exercise", state + dispatch_high(b"AB")), answer + "\n")
-check("slip 10: openings", run("exercise", open_dispatcher(3, 24, 1) + open_dispatcher(3, 24) + open_dispatcher(3, 16, 16385)
-                               + open_dispatcher(3, 32, 16384)), "R 23\nR 3\nR 23\n")
-
-
-def least_t(n):
-    """The least whole number T with 63 T at least n + 1."""
-    return next(t for t in range(n + 2) if 63 * t >= n + 1)
-
-
-class Watched:
-    """A dispatcher from fresh under random loads, its state shown after every next-octet call; and what became of each packet."""
-
-    def __init__(self, rng):
-        width, longest = rng.choice((16, 32)), rng.choice((6, 7, 24, 62, 63, 64, 124, 125, 125, 126, 127, 187, 188, 189, 300))
-        self.rng, self.agreed = rng, Agreed(width, longest - width // 8)
-        self.settings = rng.choice((2, 3, 3, 2, 1, 0))
-        self.calls = []  # each b"g", b"j" or b"k", and the packet
-        self.faults, self.met = [], 0
-
-    def low(self):
-        limit = self.agreed.limit
-        n = self.rng.choice((limit, limit, self.rng.randint(2, limit)))
-        data = (b"1" * n, b"1" * n, bytes(n), b"\x7e" * n, packet(self.rng, n), ((b"1" * 15 + b"\0") * n)[:n])
-        self.calls.append((b"g", self.rng.choice(data)))
-
-    def high(self):
-        """Each of its own, so that their order shows."""
-        data = (0x4000 + len(self.calls)).to_bytes(2, "big") + b"H" * self.rng.choice((0, 0, 0, 1, 9))
-        self.calls.append((b"j", data[:self.agreed.limit]))
-
-    def some(self, count, load):
-        """Next-octet calls, before each a high load so likely."""
-        for _ in range(count):
-            if self.rng.random() < load:
-                self.high()
-            self.calls.append((b"k", b""))
-
-    def run(self, rounds):
-        """In each round the line is emptied or not, a low packet loaded and begun or not, and then the load is steady."""
-        for _ in range(rounds):
-            self.some(self.rng.choice((0, 400, 400, 400)), 0)
-            self.low()
-            self.some(self.rng.choice((0, 1, 1, 1, 1, 2, 9)), 0)
-            self.some(self.rng.choice((60, 400, 800)), self.rng.choice((1, 1, 1, 0.3, 0.15, 0.05)))
-        commands = {b"g": dispatch_low, b"j": dispatch_high, b"k": lambda _: dispatched(1) + b"K"}
-        lines = run("exercise", lend(self.agreed.areas) + lend_line(self.agreed.line) + open_dispatcher(self.settings, *self.agreed)
-                    + b"".join(commands[kind](data) for kind, data in self.calls)).splitlines()
-        self.follow(lines)
-        self.deliver(sent_octets("".join(f"{line}\n" for line in lines).encode()), lines)
-
-    def follow(self, lines):
-        """Counts the high packets closed between each low packet's first octet and its closing flag."""
-        left, before, begun, closed, most = iter(lines), [0] * 24, False, 0, 0
-        for kind, _ in self.calls:
-            next(left)
-            if kind != b"k":
-                continue
-            now = [int(field) for field in next(left).split()[1:]]
-            if now[7] == 1 and not begun:  # low's first octet
-                begun, closed, most = True, 0, 3 * least_t(now[1])
-            if before[3] and not now[3]:  # high's closing flag
-                closed += 1
-            if begun and closed > most:
-                self.faults.append((now[1], closed))
-            if begun and before[1] and not now[1]:  # low's closing flag
-                self.met += closed == most
-                begun = False
-            before = now
-
-    def deliver(self, line, lines):
-        """What a receiver of the same settings is told: each packet that is closed, both kinds in the order accepted."""
-        answers = [text for text in lines if text[0] != "K"]
-        accepted = [call for call, answer in zip(self.calls, answers) if answer == "D"]
-        waiting = {lane: [data for kind, data in accepted if kind == lane] for lane in (b"g", b"j")}
-        told = run("exercise", lend(self.agreed.areas) + open_receiver(self.settings, *self.agreed) + b"".join(
-            b"r" + octs(line[n:n + 60000]) for n in range(0, len(line), 60000))).splitlines()
-        for text in told:
-            data = hx("".join(text.split()[3:])) if text[0] == "P" else None
-            lane = next((lane for lane, packets in waiting.items() if packets[:1] == [data]), None)
-            if lane:
-                del waiting[lane][0]
-            elif text[0] != "H":
-                self.faults.append(text)
-
-
-rng, runs, calls = random.Random(10), [], 0
-while calls < 300_000:
-    runs.append(Watched(rng))
-    runs[-1].run(rng.choice((1, 3, 9)))
-    calls += len(runs[-1].calls)
-faults, met = [fault for one in runs for fault in one.faults], sum(one.met for one in runs)
-check(f"slip 10: {calls} calls in {len(runs)} runs: never above 3 T, all packets in order", faults[:5], [])
-check(f"slip 10: 3 T met {met} times", met > 50, True)
 
 # Length bound: n + 1 + floor(n / 207) octets before the flag
 LENGTHS = (2, 201, 202, 203, 204, 205, 206, 410, 411, 412, 2046, 2047, 2048)

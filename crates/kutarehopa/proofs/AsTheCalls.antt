@@ -1,4 +1,4 @@
--- The calls on octets and the calls on states; those of the dispatcher are in AsTheDispatcher.antt.
+-- The calls on octets and the calls on states.
 use mathlib.Core.Path.{◌≡◌, refl, sym, ap, subst, ◌∙◌}
 use mathlib.Core.Bool.{Bool, true, false, not, ◌||◌}
 use mathlib.Core.List.{List, [], ◌∷◌, ◌++◌, map}
@@ -7,8 +7,9 @@ use native.Mathlib.Omega.{arith}
 use borrow.Author.Tests.{eqb-true, eqb-false, ne_eqb, ltb-false, ltb-true, lt-leb, leb-false}
 use lib.Dec.{ltb, eqb}
 use lib.ListN.{length, drop, length-set}
-use lib.Seq.{take-append_seam}
-use Rattle.cobs.proofs.Tests.{branch, decide, true-false}
+use lib.Seq.{take-append_seam, drop-append_seam}
+use Rattle.fcs.specs.Notation.{if◌then◌else◌}
+use Rattle.cobs.proofs.Tests.{branch, decide, true-false, false-true}
 use Rattle.plain.specs.declared.Sent.{Sent}
 use Rattle.plain.specs.declared.Sent.TheVariants.{Written as written_send, Refused as refused_send}
 use Rattle.plain.specs.Maps.{marked, marking, with_framing, marks_ok}
@@ -24,7 +25,7 @@ use Rattle.link.specs.declared.sender.Lane.{Lane}
 use Rattle.link.specs.declared.sender.Lane.TheVariants.{Low as low, High as high}
 use Rattle.link.specs.declared.sender.Sender.{Sender}
 use Rattle.link.specs.declared.receiver.Receiver.{Receiver}
-use Rattle.link.specs.Sender.{SenderEnd, Out, closes, breaks_off, sends, sends_nothing, refuses, out_answer, load, no_guards, next, seen}
+use Rattle.link.specs.Sender.{SenderEnd, Out, closes, breaks_off, sends, sends_nothing, refuses, out_answer, load, next, seen}
 use Rattle.link.specs.Sender as sender
 use Rattle.link.specs.Receiver.{ReceiverEnd, Receive, receive}
 use Rattle.link.specs.Receiver as receiver
@@ -32,7 +33,7 @@ use Rattle.link.specs.declared.plain_sender.PlainSender.{PlainSender}
 use Rattle.link.specs.PlainSender.{plain_agreed, plain_line, plain_send}
 use Rattle.link.specs.PlainSender as plain
 use Rattle.link.specs.ReceiverParts.{ReceiverReady}
-use Rattle.link.specs.Runs.{Station, after_load, after_next_by, after_next, sender_answers, receives}
+use Rattle.link.specs.Runs.{SenderCall, loading, next_octet, Station, after_load, after_next, sender_answers, receives}
 use Rattle.link.proofs.Within.{refuses-frames}
 use Rattle.link.proofs.ReadOn.{after-quiet}
 use Rattle.link.proofs.ReceiverCases.{not_valid, too_short, out-of-bounds}
@@ -49,13 +50,15 @@ use Rattle.kutarehopa.specs.Numbers.{number, value, sent_number}
 use Rattle.kutarehopa.specs.Layout.{settings_in, spell_receiver, receiver_in, receiver_octets, spell_sender, sender_in, sender_octets, spell_plain_sender, plain_sender_in, plain_sender_octets, over}
 use Rattle.kutarehopa.specs.Calls.{short_for_receiver, short_for_sender, no_state, taken, changes, received, receiver_after, ReceiveCall, receive_call, read_to, ReadCall, read_call, loaded, sender_after, LoadCall, load_call, sent, NextCall, next_call, wrote, WriteCall, write_call, receiver_opened, sender_opened, pair_opened, open_receiver, open_sender, open_pair, no_plain_sender, PlainCall, plain_sent, plain_send_call}
 use Rattle.kutarehopa.specs.Spelling.{plain_sender_part}
-use Rattle.kutarehopa.specs.AsTheCalls.{receive_in_octets, read_in_octets, load_in_octets, next_in_octets, last_answer, write_in_octets, OnPackedStates, receive_calls, SenderMemory, SenderUse, asks_load, asks_next, link_call, sender_numbers, read_calls, readings, LineStep, loads_packet, writes_line, octets_on_lines, program_step, RunsAsLink, OpenedIsPacked, AsPackedAgain, NoCallMade, RefusedLeavesAll, NoOctetNoChange, NoStateIsOutOfBounds, RestStays}
+use Rattle.kutarehopa.specs.AsTheCalls.{receive_in_octets, read_in_octets, load_in_octets, next_in_octets, last_answer, write_in_octets, OnPackedStates, receive_calls, SenderMemory, sender_numbers, read_calls, readings, LineStep, loads_packet, writes_line, octets_on_lines, program_step, RunsAsLink, OpenedIsPacked, AsPackedAgain, NoCallMade, RefusedLeavesAll, NoOctetNoChange, NoStateIsOutOfBounds, RestStays}
 use Rattle.kutarehopa.proofs.Numbers.{reports-have-numbers, small-refused}
 use Rattle.kutarehopa.proofs.Spelling.{from-length, packed-spells-itself, looks-nowhere-else}
-use Rattle.kutarehopa.proofs.AsTheDispatcher.{over-over, rest, out-octet, refusal, answer-is, dispatcher-opens, no-dispatcher-opens, dispatcher-opened-rest, low-packed, high-packed, again-low, again-high, refused-low, refused-high, not_low, not-high, low-rest, high-rest, dispatch-packed, dispatch-idle, dispatch-refused, again-dispatch, refused-dispatch, not-dispatch, dispatch-rest, dispatcher-runs}
 use Rattle.kutarehopa.proofs.Calls.{no-receiver, a-receiver, no_reader, a-reader, reads_nothing, no-loader, a-loader, no-sender, a-sender, no-writer, a-writer, writes_nothing_lem, not-plain-sender, a-plain-sender}
 
 -- ---- octets over octets
+
+over-over : (a b m : List ℕ) → length a ≡ length b → over a (over b m) ≡ over a m
+over-over a b m e = rw (e, drop-append_seam b (drop (length b) m))
 
 receiver-length : (r : Receiver) → length (receiver_octets r) ≡ 26
 unfolding receiver_octets
@@ -167,8 +170,8 @@ next-same e = by (next e).out refl
     by (closes l) q k = true-false k
     by breaks_off q k = true-false k
     by (sends l x) q k = true-false k
-    by sends_nothing q k = idle-changes-nothing no_guards e (ap out_answer q)
-    by (refuses n) q k = refused-changes-nothing.next no_guards e n (ap out_answer q)
+    by sends_nothing q k = idle-changes-nothing e (ap out_answer q)
+    by (refuses n) q k = refused-changes-nothing.next e n (ap out_answer q)
 
 load-packed : (l : Lane) (s : Sender) (m p area : List ℕ) → load_call l (over (sender_octets s) m) p area ≡ load_in_octets m (load l p s area)
 load-packed l s m p area =
@@ -224,9 +227,6 @@ on-packed-states =
       load = load-packed;
       next = next-packed;
       write = write-packed;
-      low_load = low-packed;
-      high_load = high-packed;
-      dispatch = dispatch-packed;
       plain_send = plain-packed;
     }
 
@@ -241,14 +241,14 @@ receiver-runs e m (x ∷ xs) =
 abbrev memory : List ℕ → Station → SenderMemory
 memory m w = record { state = over (sender_octets w.end.state) m; low = w.end.low; high = w.end.high }
 
-sender-runs : (w : Station) (m : List ℕ) (cs : List SenderUse) → sender_numbers (memory m w) cs ≡ map number (sender_answers w (map link_call cs))
-unfolding sender_numbers sender_answers after_load after_next_by
+sender-runs : (w : Station) (m : List ℕ) (cs : List SenderCall) → sender_numbers (memory m w) cs ≡ map number (sender_answers w cs)
+unfolding sender_numbers sender_answers after_load after_next
 sender-runs w m [] = refl
-sender-runs w m (asks_load low p ∷ cs) =
+sender-runs w m (loading low p ∷ cs) =
     rw (load-packed low w.end.state m p w.end.low) (ap (λ (l : List ℕ). number (load low p w.end.state w.end.low).answer ∷ l) (sender-runs (after_load low p w) m cs))
-sender-runs w m (asks_load high p ∷ cs) =
+sender-runs w m (loading high p ∷ cs) =
     rw (load-packed high w.end.state m p w.end.high) (ap (λ (l : List ℕ). number (load high p w.end.state w.end.high).answer ∷ l) (sender-runs (after_load high p w) m cs))
-sender-runs w m (asks_next ∷ cs) =
+sender-runs w m (next_octet ∷ cs) =
     rw (next-packed w.end.state m w.end.low w.end.high) (ap (λ (l : List ℕ). number (out_answer (next w.end).out) ∷ l) (sender-runs (after_next w) m cs))
 
 stretches-run : (e : ReceiverEnd) (m : List ℕ) (xss : List (List ℕ)) → read_calls (over (receiver_octets e.state) m) e.first e.second xss ≡ map (read_in_octets m) (readings e xss)
@@ -275,7 +275,6 @@ runs-as-link =
     record {
       receiver = λ r m first second xs. receiver-runs (record { state = r; first = first; second = second }) m xs;
       sender = sender-runs;
-      dispatcher = dispatcher-runs;
       stretches = λ r m first second xss. stretches-run (record { state = r; first = first; second = second }) m xss;
       lines = lines-run;
     }
@@ -304,9 +303,6 @@ opened-is-packed =
       pair = λ m o settings map marks v r. pair-by m o settings map marks _ (pair-opens.opens settings map marks v r);
       no_receiver = λ m settings reading n. ap (receiver_opened m);
       no_sender = λ m settings n. ap (sender_opened m);
-      dispatcher = dispatcher-opens;
-      no_dispatcher = no-dispatcher-opens;
-      lengths = λ settings. refl;
       no_pair = λ m o settings map marks n. pair-by m o settings map marks (ReceiverRefused n);
       marks = λ settings marks full. framing-length marks ∙ full;
     }
@@ -385,9 +381,6 @@ as-packed-again =
       load = again-load;
       next = again-next;
       write = again-write;
-      low_load = again-low;
-      high_load = again-high;
-      dispatch = λ m s low_area high_area line. again-dispatch m low_area high_area line s;
       plain_send = again-plain;
     }
 
@@ -468,6 +461,14 @@ module _ (n : ℕ) (few : n < 5) where
 refused-octet : (n x : ℕ) → n < 5 → number (octet x) ≡ number (refused n) → ⊥
 refused-octet n x few z = omega (arith, z)
 
+-- a call of next octet that changes the state answers an octet
+out-octet : (o : Out) → changes (out_answer o) ≡ true → (x : ℕ) × (out_answer o ≡ octet x)
+out-octet (closes l) k = (_, refl)
+out-octet breaks_off k = (_, refl)
+out-octet (sends l x) k = (x, refl)
+out-octet sends_nothing k = false-true k
+out-octet (refuses n) k = false-true k
+
 refused-next : (m low_area high_area : List ℕ) (n : ℕ) → n < 5 → (next_call m low_area high_area).answer ≡ number (refused n) → (next_call m low_area high_area).state ≡ m
 refused-next m low_area high_area n few z =
     decide (spell_sender m)
@@ -513,8 +514,6 @@ no-octet-no-change =
     record {
       idle = λ m low_area high_area s q. next-by m s low_area high_area idle q;
       refused = λ m low_area high_area s n q. next-by m s low_area high_area (refused n) q;
-      dispatch_idle = dispatch-idle;
-      dispatch_refused = dispatch-refused;
       write = λ m low_area high_area line z. let w = none-write m low_area high_area line z in (ap (λ (h : WriteCall). h.state) w, ap (λ (h : WriteCall). h.line) w);
     }
 
@@ -543,15 +542,25 @@ refused-leaves-all =
       write = λ m low_area high_area line n few q.
           none-write m low_area high_area line (written_none m low_area high_area line n few q)
           ∙ ap (λ (i : ℕ). record { answer = i; written = 0; state = m; line = line }) q;
-      low_load = refused-low;
-      high_load = refused-high;
-      dispatch = refused-dispatch;
       plain_send = λ m p area n few. refused-plain n few m p area;
     }
 
 -- ---- no state
 
--- what holds of every refusal holds of that of a state out of bounds
+-- the refusal of a state out of bounds
+abbrev refusal : Settings → Bool → Answer
+refusal t short = if not (valid (agreed t)) then refused 3 else if short then refused 2 else refused 3
+
+number-refusal : (t : Settings) (short : Bool) → no_state t short ≡ number (refusal t short)
+number-refusal t short = by (not (valid (agreed t))) short
+  where
+    by : (wrong short : Bool) → (if wrong then number (refused 3) else if short then number (refused 2) else number (refused 3))
+        ≡ number (if wrong then refused 3 else if short then refused 2 else refused 3)
+    by true short = refl
+    by false true = refl
+    by false false = refl
+
+-- it is a refusal
 by-refusal : (P : Answer → Type 0) → ((n : ℕ) → P (refused n)) → (t : Settings) (short : Bool) → P (refusal t short)
 by-refusal P r t short = branch P (not (valid (agreed t))) (λ _. r 3) (λ _. branch P short (λ _. r 2) (λ _. r 3))
 
@@ -576,8 +585,8 @@ module _ (e : SenderEnd) (b : sender.in_bounds (agreed e.state.settings) e.state
   out-next : (seen (next e)).answer ≡ refusal e.state.settings short_in
   out-next =
       decide (valid (agreed e.state.settings))
-      (λ v. decide short_in (λ k. rw (next-short no_guards e v k, v, k)) (λ k. rw (next-out-of-bounds no_guards e v k b, v, k)))
-      (λ v. rw (next-invalid no_guards e v, v))
+      (λ v. decide short_in (λ k. rw (next-short e v k, v, k)) (λ k. rw (next-out-of-bounds e v k b, v, k)))
+      (λ v. rw (next-invalid e v, v))
 
   out-write : (n : ℕ) → write_on n e ≡ writes_nothing e.state
   out-write n =
@@ -590,6 +599,11 @@ out-load s b l p area =
     decide (valid (agreed s.settings))
     (λ v. decide (short_for_sender s.settings area) (λ k. rw (load-short l p s area v k, v, k)) (λ k. rw (load-out-of-bounds l p s area v k b, v, k)))
     (λ v. rw (load-invalid l p s area v, v))
+
+-- octets have the same answer as a state of their settings, by the areas that are too short for these
+module _ (m : List ℕ) (t : Settings) (same : t ≡ settings_in m) (short : Settings → Bool) where
+  answer-is : no_state (settings_in m) (short (settings_in m)) ≡ number (refusal t (short t))
+  answer-is = ap (λ (u : Settings). no_state u (short u)) (sym same) ∙ number-refusal t (short t)
 
 no_read : (m : List ℕ) → spell_receiver m ≡ false → (e : ReceiverEnd) → e.state.settings ≡ settings_in m
     → receiver.in_bounds (agreed e.state.settings) e.state ≡ false → (xs : List ℕ)
@@ -655,13 +669,13 @@ no-state-is-out-of-bounds =
           ∙ ap number (sym (out-load s b l p area));
       next = λ m n e same b. ap (λ (h : NextCall). h.answer) (no-sender m e.low e.high n) ∙ no-next m e same b;
       write = no_write;
-      low_load = not_low;
-      high_load = not-high;
-      dispatch = λ m n e same b. not-dispatch e b m n same;
       plain_send = no_plain;
     }
 
 -- ---- the rest stays
+
+rest : (n : ℕ) (octets m : List ℕ) → length octets ≡ n → drop n (over octets m) ≡ drop n m
+rest n octets m e = rw (sym e) (drop-append_seam octets (drop (length octets) m))
 
 module _ (m : List ℕ) where
   receiver-rest : (r : Receiver) → drop 26 (over (receiver_octets r) m) ≡ drop 26 m
@@ -749,10 +763,6 @@ rest-stays =
       load = load-rest;
       next = next-rest;
       write = write-rest;
-      open_dispatcher = dispatcher-opened-rest;
-      low_load = low-rest;
-      high_load = high-rest;
-      dispatch = dispatch-rest;
       open_pair = λ m o settings map marks full.
           pair-opened-rest m o (plain.opened_plain_sender settings marks) (framing-length marks ∙ full) (plain.open_pair settings map marks).receiver;
       plain_send = plain-rest;

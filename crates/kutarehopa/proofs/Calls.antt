@@ -11,13 +11,11 @@ use Rattle.link.specs.declared.sender.Sender.{Sender}
 use Rattle.link.specs.Sender.{SenderEnd, load, next, seen}
 use Rattle.link.specs.Receiver.{receive}
 use Rattle.link.specs.PlainSender.{plain_send}
-use Rattle.dispatcher.specs.Dispatcher.{load_low, load_high}
-use Rattle.dispatcher.specs.Dispatcher as dispatcher
 use Rattle.reader.specs.Reading.{read_on}
 use Rattle.writer.specs.Writing.{Filled, write_on, onto}
 use Rattle.kutarehopa.specs.Numbers.{number}
-use Rattle.kutarehopa.specs.Layout.{settings_in, spell_receiver, receiver_in, spell_sender, sender_in, sender_octets, dispatcher_in, spell_plain_sender, plain_sender_in, over}
-use Rattle.kutarehopa.specs.Calls.{no_state, short_for_receiver, short_for_sender, received, receive_call, read_to, read_call, loaded, load_call, sent, next_call, wrote, write_call, dispatcher_loaded, low_call, short_for_line, high_call, dispatched, dispatch_call, no_plain_sender, plain_sent, plain_send_call}
+use Rattle.kutarehopa.specs.Layout.{settings_in, spell_receiver, receiver_in, spell_sender, sender_in, sender_octets, spell_plain_sender, plain_sender_in, over}
+use Rattle.kutarehopa.specs.Calls.{no_state, short_for_receiver, short_for_sender, received, receive_call, read_to, read_call, loaded, load_call, sent, next_call, wrote, write_call, no_plain_sender, plain_sent, plain_send_call}
 
 -- ---- the receiver
 
@@ -106,39 +104,3 @@ module _ (m p area : List ℕ) where
   pub a-plain-sender : spell_plain_sender m ≡ true → plain_send_call m p area ≡ plain_sent (plain_send (plain_sender_in m) p area)
   unfolding plain_send_call
   a-plain-sender s = simp s
-
--- ---- the dispatcher
-
-module _ (m p area : List ℕ) where
-  pub no-low : spell_sender m ≡ false → low_call m p area ≡ record { answer = no_state (settings_in m) (short_for_sender (settings_in m) area); state = m; area = area }
-  unfolding low_call
-  no-low n = simp n
-
-  pub a-low : spell_sender m ≡ true → low_call m p area ≡ dispatcher_loaded m (load_low p (dispatcher_in m) area)
-  unfolding low_call
-  a-low s = simp s
-
-  pub no-high : spell_sender m ≡ false → high_call m p area ≡ record { answer = no_state (settings_in m) (short_for_line (settings_in m) area); state = m; area = area }
-  unfolding high_call
-  no-high n = simp n
-
-  pub a-high : spell_sender m ≡ true → high_call m p area ≡ dispatcher_loaded m (load_high p (dispatcher_in m) area)
-  unfolding high_call
-  a-high s = simp s
-
-module _ (m low high line : List ℕ) where
-  pub no-dispatcher : spell_sender m ≡ false
-      → dispatch_call m low high line
-      ≡ record {
-        answer = no_state (settings_in m) (short_for_sender (settings_in m) low || short_for_sender (settings_in m) high || short_for_line (settings_in m) line);
-        state = m;
-        high = high;
-      }
-  unfolding dispatch_call
-  no-dispatcher n = simp n
-
-  pub a-dispatcher : spell_sender m ≡ true
-      → dispatch_call m low high line
-      ≡ dispatched m (dispatcher.seen (dispatcher.next (record { state = dispatcher_in m; low = low; high = high; line = line })))
-  unfolding dispatch_call
-  a-dispatcher s = simp s

@@ -2,7 +2,5 @@
 pub mod Numbers
 pub mod Calls
 pub mod Spelling
-pub mod AsTheDispatcher
 pub mod AsTheCalls
 pub mod Marked
-pub mod Dispatcher

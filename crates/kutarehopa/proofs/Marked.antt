@@ -6,15 +6,13 @@ use Rattle.fcs.specs.CheckSequence.{bit_step, bit_steps, entry, octet_step, feed
 use Rattle.plain.specs.Maps.{removed, marked, marking, with_framing, some_from, lacks, marks_wrongly, refused_pair, marks_ok}
 use Rattle.plain.specs.Stuffing.{toggled, stuffed_octet, stuffed, line, send}
 use Rattle.link.specs.Agreed.{agreed, valid}
-use Rattle.link.specs.Sender.{in_bounds, put}
 use Rattle.link.specs.PlainSender.{plain_send}
-use Rattle.dispatcher.specs.Dispatcher.{lengths_ok, line_ok, waits, load_high}
-use Rattle.kutarehopa.specs.Calls.{open_receiver, open_sender, open_pair, open_dispatcher, high_call, plain_send_call}
-use Rattle.kutarehopa.specs.Layout.{octets_from, spell_receiver, receiver_in, receiver_octets, spell_sender, sender_in, sender_octets, dispatcher_in, dispatcher_octets, spell_plain_sender, plain_sender_in, plain_sender_octets}
+use Rattle.kutarehopa.specs.Calls.{open_receiver, open_sender, open_pair, plain_send_call}
+use Rattle.kutarehopa.specs.Layout.{octets_from, spell_receiver, receiver_in, receiver_octets, spell_sender, sender_octets, spell_plain_sender, plain_sender_in, plain_sender_octets}
 use Rattle.kutarehopa.specs.Marked.{MarkedOctets, MarkedNumbers}
 
 pub marked-octets : MarkedOctets
-unfolding agreed valid in_bounds put open_receiver open_sender open_pair open_dispatcher spell_receiver receiver_in receiver_octets spell_sender sender_in sender_octets dispatcher_in dispatcher_octets high_call load_high waits line_ok lengths_ok octets_from spell_plain_sender plain_sender_in plain_sender_octets plain_send_call plain_send send line stuffed stuffed_octet toggled flat_map removed marked marking with_framing some_from lacks marks_wrongly refused_pair marks_ok ◌⊕◌ bit_step bit_steps entry octet_step feed register low_first fcs
+unfolding agreed valid open_receiver open_sender open_pair spell_receiver receiver_in receiver_octets spell_sender sender_octets octets_from spell_plain_sender plain_sender_in plain_sender_octets plain_send_call plain_send send line stuffed stuffed_octet toggled flat_map removed marked marking with_framing some_from lacks marks_wrongly refused_pair marks_ok ◌⊕◌ bit_step bit_steps entry octet_step feed register low_first fcs
 marked-octets =
     record {
       receiver = refl;
@@ -25,22 +23,16 @@ marked-octets =
       mode_escaped = refl;
       sender = refl;
       another_sender = refl;
-      dispatcher = refl;
       plain_sender = refl;
       opened_receiver = refl;
       opened_reading = refl;
       opened_sender = refl;
-      opened_dispatcher = refl;
       opened_pair = refl;
       refused_receiver = refl;
       refused_sender = refl;
-      refused_dispatcher = refl;
-      refused_dispatcher_limit = refl;
       refused_pair = refl;
       refused_width = refl;
       refused_limit = refl;
-      high_load = refl;
-      full_line = refl;
       plain_send = refl;
       plain_short = refl;
       plain_map = refl;
@@ -62,4 +54,4 @@ marked-octets =
     }
 
 pub marked-numbers : MarkedNumbers
-marked-numbers = record { quiet = refl; packet = refl; held = refl; line_full = refl; refused = refl; done = refl; octet = refl; idle = refl; written = refl; refused_send = refl }
+marked-numbers = record { quiet = refl; packet = refl; held = refl; refused = refl; done = refl; octet = refl; idle = refl; written = refl; refused_send = refl }

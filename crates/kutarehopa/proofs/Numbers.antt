@@ -128,7 +128,7 @@ sends-have-numbers s p area =
 
 -- ---- which answer it is
 
--- A number of a refusal (1 to 14, 18, 19, 21 to 23) is no other answer's: of those with a value only packets and fragments come before it.
+-- A number of a refusal (1 to 14, 18, 19, 21, 23) is no other answer's: of those with a value only packets and fragments come before it.
 module _ (n : ℕ) (small : n < 0x10000) where
   pub is-refused : (a : Answer) → ((in_second : Bool) (k : ℕ) → a ≡ packet in_second k → k < 0x10000) → ((k : ℕ) (replaced : Bool) → a ≡ held k replaced → k < 0x10000)
       → number a ≡ number (refused n) → a ≡ refused n

@@ -7,7 +7,7 @@ use native.Mathlib.Nat.{zero-add}
 use native.Mathlib.Omega.{arith}
 use borrow.Author.Tests.{leb-true, eqb-true, eqb-false, eq-eqb}
 use lib.Dec.{leb, eqb}
-use lib.ListN.{length, take, drop, get_or, get_or-append}
+use lib.ListN.{length, drop, get_or, get_or-append}
 use lib.Seq.{get_or-append-add, ext_get_or}
 use Rattle.fcs.specs.Notation.{if◌then◌else◌}
 use Rattle.cobs.proofs.Tests.{and_left, and_right}
@@ -26,9 +26,8 @@ use Rattle.link.specs.declared.receiver.Mode.{Mode}
 use Rattle.link.specs.declared.receiver.Mode.TheVariants.{Off as kept_off, Cobs as cobs, Plain as plain, Escaped as escape_open}
 use Rattle.link.specs.declared.receiver.Receiver.{Receiver}
 use Rattle.link.specs.declared.plain_sender.PlainSender.{PlainSender}
-use Rattle.dispatcher.specs.declared.Dispatcher.{Dispatcher}
-use Rattle.kutarehopa.specs.Layout.{octet_at, number_at, long_at, mark_at, octets_from, low_octet, high_octet, second_octet, third_octet, fourth_octet, mark_octet, settings_in, last_block_of, last_block_octet, mode_of, mode_octet, held_count, held_octet, spell_receiver, receiver_in, receiver_octets, line_of, line_octet, spell_sender, sender_in, sender_fields, sender_octets, dispatcher_in, dispatcher_octets, spell_plain_sender, plain_sender_in, plain_sender_octets, over}
-use Rattle.kutarehopa.specs.Spelling.{places_if_held, receiver_places, sender_places, octets_at, dispatcher_part, plain_sender_part, PackedSpellsItself, PackedAgain, LooksNowhereElse}
+use Rattle.kutarehopa.specs.Layout.{octet_at, long_at, mark_at, octets_from, low_octet, high_octet, second_octet, third_octet, fourth_octet, mark_octet, settings_in, last_block_of, last_block_octet, mode_of, mode_octet, held_count, held_octet, spell_receiver, receiver_in, receiver_octets, line_of, line_octet, spell_sender, sender_in, sender_octets, spell_plain_sender, plain_sender_in, plain_sender_octets, over}
+use Rattle.kutarehopa.specs.Spelling.{places_if_held, receiver_places, sender_places, octets_at, plain_sender_part, PackedSpellsItself, PackedAgain, LooksNowhereElse}
 
 -- ---- a field in octets and back
 
@@ -155,8 +154,8 @@ module _ (m : List ℕ) where
   from_at i (suc k) zero h = ap (octet_at m) (omega arith)
   from_at i (suc k) (suc j) h = from_at (i + 1) k j (omega arith) ∙ ap (octet_at m) (omega arith)
 
-  pub at_first : (k j : ℕ) → j < k → get_or (octets_from m 0 k) j 0 ≡ octet_at m j
-  at_first k j h = from_at 0 k j h ∙ ap (octet_at m) (zero-add j)
+  pub at_first : (j : ℕ) → j < 36 → get_or (plain_sender_part m) j 0 ≡ octet_at m j
+  at_first j h = from_at 0 36 j h ∙ ap (octet_at m) (zero-add j)
 
 -- they are those of a list that stands there
 pub from_is : (m l : List ℕ) (i k : ℕ) → length l ≡ k → ((j : ℕ) → j < k → octet_at m (i + j) ≡ get_or l j 0) → octets_from m i k ≡ l
@@ -197,14 +196,13 @@ receiver-back r m =
       mark-back r.resumed,
     )
 
--- a sender's fields, whatever stands behind them
-fields-spelled : (s : Sender) (behind : List ℕ) → spell_sender (sender_fields s behind) ≡ true
-unfolding spell_sender
-fields-spelled s behind = rw (line_small s.on, mark-small s.suspended, mark-small s.cut)
+sender-spelled : (s : Sender) (m : List ℕ) → spell_sender (over (sender_octets s) m) ≡ true
+unfolding spell_sender sender_octets
+sender-spelled s m = rw (line_small s.on, mark-small s.suspended, mark-small s.cut)
 
-fields_back : (s : Sender) (behind : List ℕ) → sender_in (sender_fields s behind) ≡ s
-unfolding sender_in
-fields_back s behind =
+sender-back : (s : Sender) (m : List ℕ) → sender_in (over (sender_octets s) m) ≡ s
+unfolding sender_in sender_octets
+sender-back s m =
     rw (
       line-back s.on,
       mark-back s.suspended,
@@ -214,41 +212,6 @@ fields_back s behind =
       number-back s.low.position,
       number-back s.high.length,
       number-back s.high.position,
-    )
-
-sender-spelled : (s : Sender) (m : List ℕ) → spell_sender (over (sender_octets s) m) ≡ true
-unfolding sender_octets
-sender-spelled s m = fields-spelled s _
-
-sender-back : (s : Sender) (m : List ℕ) → sender_in (over (sender_octets s) m) ≡ s
-unfolding sender_octets
-sender-back s m = fields_back s _
-
-dispatcher-spelled : (d : Dispatcher) (m : List ℕ) → spell_sender (over (dispatcher_octets d) m) ≡ true
-unfolding dispatcher_octets
-dispatcher-spelled d m = fields-spelled d.sender _
-
--- eight lengths, one by one
-eight_are : (l : List ℕ) → length l ≡ 8
-    → get_or l 0 0 ∷ get_or l 1 0 ∷ get_or l 2 0 ∷ get_or l 3 0 ∷ get_or l 4 0 ∷ get_or l 5 0 ∷ get_or l 6 0 ∷ get_or l 7 0 ∷ [] ≡ l
-unfolding octets_from
-eight_are l full = from_is l l 0 8 full (λ j h. ap (octet_at l) (zero-add j))
-
-dispatcher-back : (d : Dispatcher) (m : List ℕ) → length d.lengths ≡ 8 → dispatcher_in (over (dispatcher_octets d) m) ≡ d
-unfolding dispatcher_in dispatcher_octets
-dispatcher-back d m full =
-    let l = d.lengths in
-    rw (
-      fields_back d.sender _,
-      number-back (get_or l 0 0),
-      number-back (get_or l 1 0),
-      number-back (get_or l 2 0),
-      number-back (get_or l 3 0),
-      number-back (get_or l 4 0),
-      number-back (get_or l 5 0),
-      number-back (get_or l 6 0),
-      number-back (get_or l 7 0),
-      eight_are l full,
     )
 
 plain-spelled : (s : PlainSender) (m : List ℕ) → spell_plain_sender (over (plain_sender_octets s) m) ≡ true
@@ -270,7 +233,6 @@ packed-spells-itself =
     record {
       receiver = λ r m. (receiver-spelled r m, receiver-back r m);
       sender = λ s m. (sender-spelled s m, sender-back s m);
-      dispatcher = λ d m full. (dispatcher-spelled d m, dispatcher-back d m full);
       plain_sender = λ s m full. (plain-spelled s m, plain_back s m full);
     }
 
@@ -363,9 +325,9 @@ module _ (m : List ℕ) (o : (i : ℕ) → octet_at m i < 256) where
         mark-again (octet_at m 24) t.6,
       )
 
-  fields-again : SenderTests m → (behind : List ℕ) → octets_at (sender_fields (sender_in m) behind) sender_places ≡ octets_at m sender_places
-  unfolding sender_in
-  fields-again t behind =
+  sender-again : SenderTests m → octets_at (over (sender_octets (sender_in m)) m) sender_places ≡ octets_at m sender_places
+  unfolding sender_in sender_octets
+  sender-again t =
       rw (
         eqb-true (octet_at m 0) 1 t.0,
         low_again (octet_at m 2) (octet_at m 3) (o 2),
@@ -383,29 +345,6 @@ module _ (m : List ℕ) (o : (i : ℕ) → octet_at m i < 256) where
         high-again (octet_at m 14) (octet_at m 15) (o 14),
       )
 
-  sender-again : SenderTests m → octets_at (over (sender_octets (sender_in m)) m) sender_places ≡ octets_at m sender_places
-  unfolding sender_octets
-  sender-again t = fields-again t []
-
-  -- a length, and the octets of eight
-  abbrev two_at : ℕ → List ℕ → List ℕ
-  two_at i l = low_octet (number_at m i) ∷ high_octet (number_at m i) ∷ l
-
-  two-again : (i : ℕ) (k l : List ℕ) → k ≡ l → two_at i k ≡ octet_at m i ∷ octet_at m (i + 1) ∷ l
-  two-again i k l e = rw (low_again (octet_at m i) (octet_at m (i + 1)) (o i), high-again (octet_at m i) (octet_at m (i + 1)) (o i), e)
-
-  lengths-again : two_at 22 (two_at 24 (two_at 26 (two_at 28 (two_at 30 (two_at 32 (two_at 34 (two_at 36 []))))))) ≡ octets_from m 22 16
-  unfolding octets_from
-  lengths-again =
-      two-again 22 _ _ (two-again 24 _ _ (two-again 26 _ _ (two-again 28 _ _ (two-again 30 _ _ (two-again 32 _ _ (two-again 34 _ _ (two-again 36 _ _ refl)))))))
-
-  dispatcher-again : SenderTests m → dispatcher_part (over (dispatcher_octets (dispatcher_in m)) m) ≡ dispatcher_part m
-  unfolding dispatcher_in dispatcher_octets octets_from
-  dispatcher-again t =
-      let lengths = two_at 22 (two_at 24 (two_at 26 (two_at 28 (two_at 30 (two_at 32 (two_at 34 (two_at 36 []))))))) in
-      let own : List ℕ → List ℕ = λ l. octet_at m 18 ∷ octet_at m 19 ∷ octet_at m 20 ∷ octet_at m 21 ∷ l in
-      ap (λ (l : List ℕ). l ++ own lengths) (fields-again t []) ∙ ap (λ (l : List ℕ). octets_at m sender_places ++ own l) lengths-again
-
   -- what stands at each place of a plain sender
   plain_at : spell_plain_sender m ≡ true → (j : ℕ) → j < 36 → octet_at (over (plain_sender_octets (plain_sender_in m)) m) j ≡ octet_at m j
   unfolding spell_plain_sender plain_sender_in plain_sender_octets
@@ -421,14 +360,13 @@ module _ (m : List ℕ) (o : (i : ℕ) → octet_at m i < 256) where
   plain-again : spell_plain_sender m ≡ true → plain_sender_part (over (plain_sender_octets (plain_sender_in m)) m) ≡ plain_sender_part m
   plain-again s =
       from_is (over (plain_sender_octets (plain_sender_in m)) m) (plain_sender_part m) 0 36 (from-length m 0 36)
-      (λ j h. rw zero-add (plain_at s j h ∙ sym (at_first m 36 j h)))
+      (λ j h. rw zero-add (plain_at s j h ∙ sym (at_first m j h)))
 
 pub packed-again : PackedAgain
 packed-again =
     record {
       receiver = λ m o s. receiver-again m o (receiver-tests m s) (mark_at m 13) refl;
       sender = λ m o s. sender-again m o (sender-tests m s);
-      dispatcher = λ m o s. dispatcher-again m o (sender-tests m s);
       plain_sender = plain-again;
     }
 
@@ -517,48 +455,13 @@ module _ (m n : List ℕ) where
         rw (p.1, p.2, p.3, p.4, p.5, p.6, p.7, p.8, p.9, p.10, p.11, p.12, p.13, p.14, p.15, p.16, p.17),
       )
 
-  -- the first k octets, one by one
-  same_first : (k : ℕ) → octets_from n 0 k ≡ octets_from m 0 k → (j : ℕ) → j < k → octet_at n j ≡ octet_at m j
-  same_first k e j h = sym (at_first n k j h) ∙ (ap (λ (l : List ℕ). get_or l j 0) e ∙ at_first m k j h)
-
-  dispatcher-nowhere : dispatcher_part n ≡ dispatcher_part m → (spell_sender n ≡ spell_sender m) × (dispatcher_in n ≡ dispatcher_in m)
-  unfolding dispatcher_in octets_from
-  dispatcher-nowhere e =
-      let at = same_first 38 e in
-      let s = sender-nowhere (ap (take 18) e) in (
-        s.0,
-        rw (
-          s.1,
-          at 18 (omega arith),
-          at 19 (omega arith),
-          at 20 (omega arith),
-          at 21 (omega arith),
-          at 22 (omega arith),
-          at 23 (omega arith),
-          at 24 (omega arith),
-          at 25 (omega arith),
-          at 26 (omega arith),
-          at 27 (omega arith),
-          at 28 (omega arith),
-          at 29 (omega arith),
-          at 30 (omega arith),
-          at 31 (omega arith),
-          at 32 (omega arith),
-          at 33 (omega arith),
-          at 34 (omega arith),
-          at 35 (omega arith),
-          at 36 (omega arith),
-          at 37 (omega arith),
-        ),
-      )
-
   plain-nowhere : plain_sender_part n ≡ plain_sender_part m → (spell_plain_sender n ≡ spell_plain_sender m) × (plain_sender_in n ≡ plain_sender_in m)
   unfolding spell_plain_sender plain_sender_in
   plain-nowhere e =
-      let at = same_first 36 e in
+      let at : (j : ℕ) → j < 36 → octet_at n j ≡ octet_at m j = λ j h. sym (at_first n j h) ∙ (ap (λ (l : List ℕ). get_or l j 0) e ∙ at_first m j h) in
       let same : octets_from n 4 32 ≡ octets_from m 4 32 =
       from_is n (octets_from m 4 32) 4 32 (from-length m 4 32) (λ j h. at (4 + j) (omega arith) ∙ sym (from_at m 4 32 j h)) in
       (rw (at 0 (omega arith)), rw (at 1 (omega arith), at 2 (omega arith), at 3 (omega arith), same))
 
 pub looks-nowhere-else : LooksNowhereElse
-looks-nowhere-else = record { receiver = receiver-nowhere; sender = sender-nowhere; dispatcher = dispatcher-nowhere; plain_sender = plain-nowhere }
+looks-nowhere-else = record { receiver = receiver-nowhere; sender = sender-nowhere; plain_sender = plain-nowhere }

@@ -1,9 +1,9 @@
--- The calls on octets and the calls on states (link's, reader's, writer's, the dispatcher's). Each is proved in proofs/AsTheCalls.antt.
+-- The calls on octets and the calls on states (link's, reader's, writer's). Each is proved in proofs/AsTheCalls.antt.
 use Rattle.std.specs.Prelude.{true, false, List, [], ◌∷◌, ◌++◌, map, ◌≡◌, ℕ, ◌-◌, ◌<◌, eqb, length, take, drop, get_or}
 use Rattle.fcs.specs.Notation.{if◌then◌else◌}
 use Rattle.plain.specs.Maps.{refused_pair, marks_ok}
 use Rattle.link.specs.declared.Settings.{Settings}
-use Rattle.link.specs.Agreed.{agreed, valid_limit, valid}
+use Rattle.link.specs.Agreed.{agreed, valid}
 use Rattle.link.specs.declared.sender.Opening.TheVariants.{Refused as SenderRefused}
 use Rattle.link.specs.declared.receiver.Opening.TheVariants.{Refused as ReceiverRefused}
 use Rattle.link.specs.Answers.{Answer, done, octet, idle, quiet, refused}
@@ -24,13 +24,9 @@ use Rattle.link.specs.Runs.{SenderCall, loading, next_octet, Station, sender_ans
 use Rattle.reader.specs.Reading.{Reach, read_on}
 use Rattle.writer.specs.Writing.{Filled, write_on, onto}
 use Rattle.writer.specs.Pieces.{ProgramStep, loads, piece, in_pieces}
-use Rattle.dispatcher.specs.declared.Dispatcher.{Dispatcher}
-use Rattle.dispatcher.specs.Dispatcher.{opened_dispatcher, load_low, load_high, DispatcherEnd}
-use Rattle.dispatcher.specs.Dispatcher as dispatcher
-use Rattle.dispatcher.specs.Runs.{DispatcherCall, loading_low, loading_high, next_octet as dispatches, Desk, answers}
 use Rattle.kutarehopa.specs.Numbers.{number, sent_number}
-use Rattle.kutarehopa.specs.Layout.{settings_in, spell_receiver, receiver_in, receiver_octets, spell_sender, sender_in, sender_octets, dispatcher_in, dispatcher_octets, spell_plain_sender, plain_sender_in, plain_sender_octets, over}
-use Rattle.kutarehopa.specs.Calls.{open_receiver, open_sender, open_pair, ReceiveCall, receive_call, ReadCall, read_call, LoadCall, load_call, NextCall, next_call, WriteCall, write_call, open_dispatcher, low_call, high_call, DispatchCall, dispatch_call, plain_sent, plain_send_call}
+use Rattle.kutarehopa.specs.Layout.{settings_in, spell_receiver, receiver_in, receiver_octets, spell_sender, sender_in, sender_octets, spell_plain_sender, plain_sender_in, plain_sender_octets, over}
+use Rattle.kutarehopa.specs.Calls.{open_receiver, open_sender, open_pair, ReceiveCall, receive_call, ReadCall, read_call, LoadCall, load_call, NextCall, next_call, WriteCall, write_call, plain_sent, plain_send_call}
 use Rattle.kutarehopa.specs.Spelling.{plain_sender_part}
 
 -- ---- on a packed state, which has in the octets of the layout those of a state: so every opening leaves it
@@ -71,12 +67,6 @@ last_answer line e t =
 abbrev pub write_in_octets : List ℕ → List ℕ → SenderEnd → Filled → WriteCall
 write_in_octets m line e t = record { answer = number (last_answer line e t); written = t.filled; state = over (sender_octets t.state) m; line = t.line }
 
-abbrev pub dispatcher_load_in_octets : List ℕ → dispatcher.Load → LoadCall
-dispatcher_load_in_octets m h = record { answer = number h.answer; state = over (dispatcher_octets h.state) m; area = h.area }
-
-abbrev pub dispatch_in_octets : List ℕ → dispatcher.Next → DispatchCall
-dispatch_in_octets m h = record { answer = number h.answer; state = over (dispatcher_octets h.state) m; high = h.high }
-
 pub record OnPackedStates : Type 0 where
   pub receive : (r : Receiver) (m : List ℕ) (x : ℕ) (first second : List ℕ)
       → receive_call (over (receiver_octets r) m) x first second ≡ receive_in_octets m (receive (record { state = r; first = first; second = second }) x)
@@ -88,13 +78,6 @@ pub record OnPackedStates : Type 0 where
   pub write : (s : Sender) (m low high line : List ℕ)
       → (let e : SenderEnd = record { state = s; low = low; high = high } in
       write_call (over (sender_octets s) m) low high line ≡ write_in_octets m line e (onto line (write_on (length line) e)))
-  pub low_load : (d : Dispatcher) (m p area : List ℕ) → length d.lengths ≡ 8
-      → low_call (over (dispatcher_octets d) m) p area ≡ dispatcher_load_in_octets m (load_low p d area)
-  pub high_load : (d : Dispatcher) (m p line : List ℕ) → length d.lengths ≡ 8
-      → high_call (over (dispatcher_octets d) m) p line ≡ dispatcher_load_in_octets m (load_high p d line)
-  pub dispatch : (d : Dispatcher) (m low high line : List ℕ) → length d.lengths ≡ 8
-      → dispatch_call (over (dispatcher_octets d) m) low high line
-      ≡ dispatch_in_octets m (dispatcher.seen (dispatcher.next (record { state = d; low = low; high = high; line = line })))
   pub plain_send : (s : PlainSender) (m p area : List ℕ) → length s.marks ≡ 32
       → plain_send_call (over (plain_sender_octets s) m) p area ≡ plain_sent (plain_send s p area)
 
@@ -121,20 +104,11 @@ abbrev pub after_load_call : Lane → LoadCall → SenderMemory → SenderMemory
 after_load_call low h w = record { state = h.state; low = h.area; high = w.high }
 after_load_call high h w = record { state = h.state; low = w.low; high = h.area }
 
--- A C program's calls of the sender, and the call of `link` that each is: next octet is document 01's, without guards.
-pub data SenderUse : Type 0 where
-  asks_load : Lane → List ℕ → SenderUse
-  asks_next : SenderUse
-
-abbrev pub link_call : SenderUse → SenderCall
-link_call (asks_load l p) = loading l p
-link_call asks_next = next_octet
-
 -- what a list of calls answers
-unfoldable pub sender_numbers : SenderMemory → List SenderUse → List ℕ
+unfoldable pub sender_numbers : SenderMemory → List SenderCall → List ℕ
 sender_numbers w [] = []
-sender_numbers w (asks_load l p ∷ cs) = let h = load_call l w.state p (area_in l w) in h.answer ∷ sender_numbers (after_load_call l h w) cs
-sender_numbers w (asks_next ∷ cs) =
+sender_numbers w (loading l p ∷ cs) = let h = load_call l w.state p (area_in l w) in h.answer ∷ sender_numbers (after_load_call l h w) cs
+sender_numbers w (next_octet ∷ cs) =
     let h = next_call w.state w.low w.high in
     h.answer ∷ sender_numbers (record { state = h.state; low = w.low; high = w.high }) cs
 
@@ -166,56 +140,25 @@ abbrev pub program_step : LineStep → ProgramStep
 program_step (loads_packet l p) = loads l p
 program_step (writes_line line) = piece (length line)
 
--- a dispatcher's octets and its areas
-pub record DispatcherMemory : Type 0 where
-  pub state : List ℕ
-  pub low : List ℕ
-  pub high : List ℕ
-  pub line : List ℕ
-
--- what a list of its calls answers
-unfoldable pub dispatcher_numbers : DispatcherMemory → List DispatcherCall → List ℕ
-dispatcher_numbers w [] = []
-dispatcher_numbers w (loading_low p ∷ cs) =
-    let h = low_call w.state p w.low in
-    h.answer ∷ dispatcher_numbers (record { state = h.state; low = h.area; high = w.high; line = w.line }) cs
-dispatcher_numbers w (loading_high p ∷ cs) =
-    let h = high_call w.state p w.line in
-    h.answer ∷ dispatcher_numbers (record { state = h.state; low = w.low; high = w.high; line = h.area }) cs
-dispatcher_numbers w (dispatches ∷ cs) =
-    let h = dispatch_call w.state w.low w.high w.line in
-    h.answer ∷ dispatcher_numbers (record { state = h.state; low = w.low; high = h.high; line = w.line }) cs
-
-abbrev pub desk_in_octets : List ℕ → Desk → DispatcherMemory
-desk_in_octets m w =
-    let e = w.end in
-    record { state = over (dispatcher_octets e.state) m; low = e.low; high = e.high; line = e.line }
-
--- From a packed state on, a run of calls answers as the run of link's calls does (receiver, sender), or of the dispatcher's, and the stretches as
--- those of `reader` and `writer`, whose theorems say that these are the calls octet by octet.
+-- From a packed state on, a run of calls answers as the run of link's calls does (receiver, sender), and the stretches as those of `reader`
+-- and `writer`, whose theorems say that these are the calls octet by octet.
 pub record RunsAsLink : Type 0 where
   pub receiver : (r : Receiver) (m first second xs : List ℕ)
       → receive_calls (over (receiver_octets r) m) first second xs ≡ map (receive_in_octets m) (receives (record { state = r; first = first; second = second }) xs)
-  pub sender : (w : Station) (m : List ℕ) (cs : List SenderUse)
-      → sender_numbers (record { state = over (sender_octets w.end.state) m; low = w.end.low; high = w.end.high }) cs ≡ map number (sender_answers w (map link_call cs))
-  pub dispatcher : (w : Desk) (m : List ℕ) → length w.end.state.lengths ≡ 8 → (cs : List DispatcherCall)
-      → dispatcher_numbers (desk_in_octets m w) cs ≡ map number (answers w cs)
+  pub sender : (w : Station) (m : List ℕ) (cs : List SenderCall)
+      → sender_numbers (record { state = over (sender_octets w.end.state) m; low = w.end.low; high = w.end.high }) cs ≡ map number (sender_answers w cs)
   pub stretches : (r : Receiver) (m first second : List ℕ) (xss : List (List ℕ))
       → read_calls (over (receiver_octets r) m) first second xss ≡ map (read_in_octets m) (readings (record { state = r; first = first; second = second }) xss)
   pub lines : (e : SenderEnd) (m : List ℕ) (ss : List LineStep)
       → octets_on_lines (record { state = over (sender_octets e.state) m; low = e.low; high = e.high }) ss ≡ (in_pieces e (map program_step ss)).octets
 
 -- An opening that is refused, by whatever number, leaves all octets; an opened end is packed. Of a pair both are, or both stay.
--- Of a dispatcher a limit out of range is refused 23, and else the width 3.
 --   marks: a pair's sender has 32 octets of marks, if those handed in are 32, so that packed it spells itself
---   lengths: so a dispatcher, which has eight lengths
 pub record OpenedIsPacked : Type 0 where
   pub no_receiver : (m : List ℕ) (settings : Settings) (reading : PlainReading) (n : ℕ) → receiver.open_receiver settings reading ≡ ReceiverRefused n
       → open_receiver m settings reading ≡ record { answer = number (refused n); state = m }
   pub no_sender : (m : List ℕ) (settings : Settings) (n : ℕ) → sender.open_sender settings ≡ SenderRefused n
       → open_sender m settings ≡ record { answer = number (refused n); state = m }
-  pub no_dispatcher : (m : List ℕ) (settings : Settings) → valid (agreed settings) ≡ false
-      → open_dispatcher m settings ≡ record { answer = number (refused (if valid_limit (agreed settings) then 3 else 23)); state = m }
   pub no_pair : (m o : List ℕ) (settings : Settings) (map : ℕ) (marks : List ℕ) (n : ℕ) → (plain.open_pair settings map marks).receiver ≡ ReceiverRefused n
       → open_pair m o settings map marks ≡ record { answer = number (refused n); sender = m; receiver = o }
   pub pair : (m o : List ℕ) (settings : Settings) (map : ℕ) (marks : List ℕ) → valid (agreed settings) ≡ true → refused_pair map marks ≡ false
@@ -229,10 +172,7 @@ pub record OpenedIsPacked : Type 0 where
       → open_receiver m settings reading ≡ record { answer = number done; state = over (receiver_octets (receiver.opened_receiver settings reading)) m }
   pub sender : (m : List ℕ) (settings : Settings) → valid (agreed settings) ≡ true
       → open_sender m settings ≡ record { answer = number done; state = over (sender_octets (sender.opened_sender settings)) m }
-  pub dispatcher : (m : List ℕ) (settings : Settings) → valid (agreed settings) ≡ true
-      → open_dispatcher m settings ≡ record { answer = number done; state = over (dispatcher_octets (opened_dispatcher settings)) m }
   pub marks : (settings : Settings) (marks : List ℕ) → length marks ≡ 32 → length (opened_plain_sender settings marks).marks ≡ 32
-  pub lengths : (settings : Settings) → length (opened_dispatcher settings).lengths ≡ 8
 
 -- ---- on any octets
 
@@ -260,17 +200,6 @@ pub record AsPackedAgain : Type 0 where
       ((write_call m low high (x ∷ line)).answer ≡ h.answer)
       × ((write_call m low high (x ∷ line)).written ≡ h.written)
       × ((h.written ≡ 0 → ⊥) → write_call m low high (x ∷ line) ≡ h))
-  pub low_load : (m : List ℕ) → spell_sender m ≡ true → (p area : List ℕ)
-      → (let h = low_call (over (dispatcher_octets (dispatcher_in m)) m) p area in
-      ((low_call m p area).answer ≡ h.answer) × ((load_low p (dispatcher_in m) area).answer ≡ done → low_call m p area ≡ h))
-  pub high_load : (m : List ℕ) → spell_sender m ≡ true → (p line : List ℕ)
-      → (let h = high_call (over (dispatcher_octets (dispatcher_in m)) m) p line in
-      ((high_call m p line).answer ≡ h.answer) × ((load_high p (dispatcher_in m) line).answer ≡ done → high_call m p line ≡ h))
-  pub dispatch : (m : List ℕ) → spell_sender m ≡ true → (low high line : List ℕ)
-      → (let h = dispatch_call (over (dispatcher_octets (dispatcher_in m)) m) low high line in
-      ((dispatch_call m low high line).answer ≡ h.answer)
-      × ((x : ℕ) → (dispatcher.seen (dispatcher.next (record { state = dispatcher_in m; low = low; high = high; line = line }))).answer ≡ octet x
-      → dispatch_call m low high line ≡ h))
   pub plain_send : (m : List ℕ) → spell_plain_sender m ≡ true → (p area : List ℕ)
       → plain_send_call m p area ≡ plain_send_call (over (plain_sender_octets (plain_sender_in m)) m) p area
 
@@ -279,7 +208,7 @@ pub record NoCallMade : Type 0 where
   pub read : (m first second : List ℕ) → read_call m [] first second ≡ record { answer = number quiet; used = 0; state = m; first = first; second = second }
   pub write : (m low high : List ℕ) → write_call m low high [] ≡ record { answer = number quiet; written = 0; state = m; line = [] }
 
--- A refused call (1 to 4, and a dispatcher's 22) leaves every octet of its state and of its areas as it was.
+-- A refused call (1 to 4) leaves every octet of its state and of its areas as it was.
 pub record RefusedLeavesAll : Type 0 where
   pub receive : (m : List ℕ) (x : ℕ) (first second : List ℕ) (n : ℕ) → n < 5 → (receive_call m x first second).answer ≡ number (refused n)
       → receive_call m x first second ≡ record { answer = number (refused n); state = m; first = first; second = second }
@@ -290,24 +219,11 @@ pub record RefusedLeavesAll : Type 0 where
   pub next : (m low high : List ℕ) (n : ℕ) → n < 5 → (next_call m low high).answer ≡ number (refused n) → (next_call m low high).state ≡ m
   pub write : (m low high line : List ℕ) (n : ℕ) → n < 5 → (write_call m low high line).answer ≡ number (refused n)
       → write_call m low high line ≡ record { answer = number (refused n); written = 0; state = m; line = line }
-  pub low_load : (m p area : List ℕ) (n : ℕ) → n < 23 → (low_call m p area).answer ≡ number (refused n)
-      → low_call m p area ≡ record { answer = number (refused n); state = m; area = area }
-  pub high_load : (m p line : List ℕ) (n : ℕ) → n < 23 → (high_call m p line).answer ≡ number (refused n)
-      → high_call m p line ≡ record { answer = number (refused n); state = m; area = line }
-  pub dispatch : (m low high line : List ℕ) (n : ℕ) → n < 23 → (dispatch_call m low high line).answer ≡ number (refused n)
-      → dispatch_call m low high line ≡ record { answer = number (refused n); state = m; high = high }
   pub plain_send : (m p area : List ℕ) (n : ℕ) → n < 5 → (plain_send_call m p area).answer ≡ number (refused n)
       → plain_send_call m p area ≡ record { answer = number (refused n); area = area }
 
--- Nor does a sender's call change an octet that writes none: next octet where it answers Idle or a refusal, and writing on. A dispatcher's leaves
--- its high area too: nothing is taken up.
+-- Nor does a sender's call change an octet that writes none: next octet where it answers Idle or a refusal, and writing on.
 pub record NoOctetNoChange : Type 0 where
-  pub dispatch_idle : (m low high line : List ℕ) → spell_sender m ≡ true
-      → (dispatcher.seen (dispatcher.next (record { state = dispatcher_in m; low = low; high = high; line = line }))).answer ≡ idle
-      → dispatch_call m low high line ≡ record { answer = number idle; state = m; high = high }
-  pub dispatch_refused : (m low high line : List ℕ) → spell_sender m ≡ true → (n : ℕ)
-      → (dispatcher.seen (dispatcher.next (record { state = dispatcher_in m; low = low; high = high; line = line }))).answer ≡ refused n
-      → dispatch_call m low high line ≡ record { answer = number (refused n); state = m; high = high }
   pub idle : (m low high : List ℕ) → spell_sender m ≡ true → (seen (next (record { state = sender_in m; low = low; high = high }))).answer ≡ idle
       → next_call m low high ≡ record { answer = number idle; state = m }
   pub refused : (m low high : List ℕ) → spell_sender m ≡ true → (n : ℕ) → (seen (next (record { state = sender_in m; low = low; high = high }))).answer ≡ refused n
@@ -328,21 +244,12 @@ pub record NoStateIsOutOfBounds : Type 0 where
   pub write : (m : List ℕ) → spell_sender m ≡ false → (e : SenderEnd) → e.state.settings ≡ settings_in m → sender.in_bounds (agreed e.state.settings) e.state ≡ false → (line : List ℕ)
       → ((write_call m e.low e.high line).answer ≡ number (last_answer line e (onto line (write_on (length line) e))))
       × ((write_call m e.low e.high line).written ≡ 0)
-  pub low_load : (m : List ℕ) → spell_sender m ≡ false → (d : Dispatcher) → d.sender.settings ≡ settings_in m
-      → dispatcher.in_bounds (agreed d.sender.settings) d ≡ false → (p area : List ℕ)
-      → (low_call m p area).answer ≡ number (load_low p d area).answer
-  pub high_load : (m : List ℕ) → spell_sender m ≡ false → (d : Dispatcher) → d.sender.settings ≡ settings_in m
-      → dispatcher.in_bounds (agreed d.sender.settings) d ≡ false → (p line : List ℕ)
-      → (high_call m p line).answer ≡ number (load_high p d line).answer
-  pub dispatch : (m : List ℕ) → spell_sender m ≡ false → (e : DispatcherEnd) → e.state.sender.settings ≡ settings_in m
-      → dispatcher.in_bounds (agreed e.state.sender.settings) e.state ≡ false
-      → (dispatch_call m e.low e.high e.line).answer ≡ number (dispatcher.seen (dispatcher.next e)).answer
   pub plain_send : (m : List ℕ) → spell_plain_sender m ≡ false → (s : PlainSender) → s.width ≡ (plain_sender_in m).width → s.limit ≡ (plain_sender_in m).limit
       → marks_ok s.marks ≡ false → (p area : List ℕ) → length (plain_line s p) ≡ length (plain_line (plain_sender_in m) p)
       → (plain_send_call m p area).answer ≡ sent_number (plain_send s p area).answer
 
--- No call writes to the octets of a memory that the layout does not list: those from the 27th of a receiver's on, from the 39th of a sender's and a
--- dispatcher's, and from the 37th of a plain sender's. A plain send only reads its sender's octets, and those make no difference to it.
+-- No call writes to the octets of a memory that the layout does not list: those from the 27th of a receiver's on, from the 39th of a sender's, and
+-- from the 37th of a plain sender's. A plain send only reads its sender's octets, and those make no difference to it.
 pub record RestStays : Type 0 where
   pub open_receiver : (m : List ℕ) (settings : Settings) (reading : PlainReading) → drop 26 (open_receiver m settings reading).state ≡ drop 26 m
   pub receive : (m : List ℕ) (x : ℕ) (first second : List ℕ) → drop 26 (receive_call m x first second).state ≡ drop 26 m
@@ -351,10 +258,6 @@ pub record RestStays : Type 0 where
   pub load : (l : Lane) (m p area : List ℕ) → drop 38 (load_call l m p area).state ≡ drop 38 m
   pub next : (m low high : List ℕ) → drop 38 (next_call m low high).state ≡ drop 38 m
   pub write : (m low high line : List ℕ) → drop 38 (write_call m low high line).state ≡ drop 38 m
-  pub open_dispatcher : (m : List ℕ) (settings : Settings) → drop 38 (open_dispatcher m settings).state ≡ drop 38 m
-  pub low_load : (m p area : List ℕ) → drop 38 (low_call m p area).state ≡ drop 38 m
-  pub high_load : (m p line : List ℕ) → drop 38 (high_call m p line).state ≡ drop 38 m
-  pub dispatch : (m low high line : List ℕ) → drop 38 (dispatch_call m low high line).state ≡ drop 38 m
   pub open_pair : (m o : List ℕ) (settings : Settings) (map : ℕ) (marks : List ℕ) → length marks ≡ 32
       → (drop 36 (open_pair m o settings map marks).sender ≡ drop 36 m) × (drop 26 (open_pair m o settings map marks).receiver ≡ drop 26 o)
   pub plain_send : (m n p area : List ℕ) → plain_sender_part n ≡ plain_sender_part m → plain_send_call n p area ≡ plain_send_call m p area

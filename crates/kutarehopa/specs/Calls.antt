@@ -22,13 +22,10 @@ use Rattle.link.specs.Receiver as receiver
 use Rattle.link.specs.declared.plain_sender.PlainSender.{PlainSender}
 use Rattle.link.specs.PlainSender.{plain_line, plain_send}
 use Rattle.link.specs.PlainSender as plain
-use Rattle.dispatcher.specs.declared.Dispatcher.{Dispatcher}
-use Rattle.dispatcher.specs.Dispatcher.{line_length, load_low, load_high}
-use Rattle.dispatcher.specs.Dispatcher as dispatcher
 use Rattle.reader.specs.Reading.{Reach, read_on}
 use Rattle.writer.specs.Writing.{Filled, write_on, onto}
 use Rattle.kutarehopa.specs.Numbers.{number, sent_number}
-use Rattle.kutarehopa.specs.Layout.{settings_in, spell_receiver, receiver_in, receiver_octets, spell_sender, sender_in, sender_octets, dispatcher_in, dispatcher_octets, spell_plain_sender, plain_sender_in, plain_sender_octets, over}
+use Rattle.kutarehopa.specs.Layout.{settings_in, spell_receiver, receiver_in, receiver_octets, spell_sender, sender_in, sender_octets, spell_plain_sender, plain_sender_in, plain_sender_octets, over}
 
 -- ---- opening
 
@@ -210,51 +207,6 @@ write_call m low high line =
     (let e : SenderEnd = record { state = sender_in m; low = low; high = high } in
     wrote m (seen (next e)).answer (onto line (write_on (length line) e)))
     else record { answer = no_state (settings_in m) (short_for_sender (settings_in m) low || short_for_sender (settings_in m) high); written = 0; state = m; line = line }
-
--- ---- the dispatcher
-
-unfoldable pub open_dispatcher : List ℕ → Settings → OpenCall
-open_dispatcher m settings =
-    let h = dispatcher.open_dispatcher settings in
-    if eqb h.refused 0 then record { answer = number done; state = over (dispatcher_octets h.state) m } else record { answer = number (refused h.refused); state = m }
-
-abbrev pub dispatcher_after : List ℕ → Answer → Dispatcher → List ℕ
-dispatcher_after m a d = if changes a then over (dispatcher_octets d) m else m
-
-abbrev pub dispatcher_loaded : List ℕ → dispatcher.Load → LoadCall
-dispatcher_loaded m h = record { answer = number h.answer; state = dispatcher_after m h.answer h.state; area = h.area }
-
-unfoldable pub low_call : List ℕ → List ℕ → List ℕ → LoadCall
-low_call m p area =
-    if spell_sender m then dispatcher_loaded m (load_low p (dispatcher_in m) area)
-    else record { answer = no_state (settings_in m) (short_for_sender (settings_in m) area); state = m; area = area }
-
--- a line that is too short
-abbrev pub short_for_line : Settings → List ℕ → Bool
-short_for_line settings line = ltb (length line) (line_length (agreed settings))
-
-unfoldable pub high_call : List ℕ → List ℕ → List ℕ → LoadCall
-high_call m p line =
-    if spell_sender m then dispatcher_loaded m (load_high p (dispatcher_in m) line)
-    else record { answer = no_state (settings_in m) (short_for_line (settings_in m) line); state = m; area = line }
-
-pub record DispatchCall : Type 0 where
-  pub answer : ℕ
-  pub state : List ℕ
-  pub high : List ℕ
-
-abbrev pub dispatched : List ℕ → dispatcher.Next → DispatchCall
-dispatched m h = record { answer = number h.answer; state = dispatcher_after m h.answer h.state; high = h.high }
-
-unfoldable pub dispatch_call : List ℕ → List ℕ → List ℕ → List ℕ → DispatchCall
-dispatch_call m low high line =
-    if spell_sender m then dispatched m (dispatcher.seen (dispatcher.next (record { state = dispatcher_in m; low = low; high = high; line = line })))
-    else
-    record {
-      answer = no_state (settings_in m) (short_for_sender (settings_in m) low || short_for_sender (settings_in m) high || short_for_line (settings_in m) line);
-      state = m;
-      high = high;
-    }
 
 -- ---- the plain sender
 

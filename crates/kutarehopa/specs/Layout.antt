@@ -1,6 +1,6 @@
 -- The octets of a state, field by field: it is packed into the first of 64 octets that the caller has. Those listed here are written, each with
--- the value of its field. Numbers of two octets or four have the low one first, and marks are 0 or 1. A dispatcher's octets are its sender's, and
--- behind them its own; a sender's are those of a dispatcher with nothing waiting, and its calls do not look at them.
+-- the value of its field; a sender's fields of later work have the one value that they can have as yet, and are not looked at. Numbers of two
+-- octets or four have the low one first, and marks are 0 or 1.
 --
 --   receiver                               sender
 --   0       1                              0       1
@@ -18,16 +18,11 @@
 --   20      data left                      17      zeros due
 --   21      zeros due                      18-37   0
 --   22      last block: 0 none, 1 D0,
---           2 other                        dispatcher
---   23      in a frame                     0-17    its sender's
---   24      resumed                        18      place of the first that waits
---   25      remembered refusal             19      how many wait
---                                          20      high packets closed since low was suspended
---   plain sender                           21      octets that low still has
---   0       1                              22-37   eight lengths
---   1       width
---   2-3     limit
---   4-35    sending map
+--           2 other                        plain sender
+--   23      in a frame                     0       1
+--   24      resumed                        1       width
+--   25      remembered refusal             2-3     limit
+--                                          4-35    sending map
 use Rattle.std.specs.Prelude.{Bool, true, false, ◌&&◌, ◌||◌, List, [], ◌∷◌, ◌++◌, ℕ, zero, suc, ◌+◌, ◌*◌, ◌/◌, ◌%◌, leb, eqb, length, drop, get_or, replicate}
 use Rattle.fcs.specs.Notation.{if◌then◌else◌}
 use Rattle.link.specs.Agreed.{agreed}
@@ -45,7 +40,6 @@ use Rattle.link.specs.declared.receiver.Mode.{Mode}
 use Rattle.link.specs.declared.receiver.Mode.TheVariants.{Off as kept_off, Cobs as cobs, Plain as plain, Escaped as escape_open}
 use Rattle.link.specs.declared.receiver.Receiver.{Receiver}
 use Rattle.link.specs.declared.plain_sender.PlainSender.{PlainSender}
-use Rattle.dispatcher.specs.declared.Dispatcher.{Dispatcher}
 
 -- ---- fields
 
@@ -179,44 +173,13 @@ sender_in m =
       zeros = octet_at m 17;
     }
 
-abbrev pub sender_fields : Sender → List ℕ → List ℕ
-sender_fields s behind =
+unfoldable pub sender_octets : Sender → List ℕ
+sender_octets s =
     1 ∷ s.settings.width ∷ low_octet s.settings.limit ∷ high_octet s.settings.limit ∷ s.settings.octet
     ∷ line_octet s.on ∷ mark_octet s.suspended ∷ mark_octet s.cut
     ∷ low_octet s.low.length ∷ high_octet s.low.length ∷ low_octet s.low.position ∷ high_octet s.low.position
     ∷ low_octet s.high.length ∷ high_octet s.high.length ∷ low_octet s.high.position ∷ high_octet s.high.position
-    ∷ s.left ∷ s.zeros ∷ behind
-
-unfoldable pub sender_octets : Sender → List ℕ
-sender_octets s = sender_fields s (replicate 20 0)
-
--- ---- the dispatcher
-
--- Its sender's octets say whether it is one: any numbers may stand in its own.
-unfoldable pub dispatcher_in : List ℕ → Dispatcher
-dispatcher_in m =
-    record {
-      sender = sender_in m;
-      first = octet_at m 18;
-      waiting = octet_at m 19;
-      closed = octet_at m 20;
-      grace = octet_at m 21;
-      lengths =
-          number_at m 22 ∷ number_at m 24 ∷ number_at m 26 ∷ number_at m 28 ∷ number_at m 30 ∷ number_at m 32 ∷ number_at m 34 ∷ number_at m 36 ∷ [];
-    }
-
--- the length at a place
-abbrev pub length_at : Dispatcher → ℕ → ℕ
-length_at d i = get_or d.lengths i 0
-
-unfoldable pub dispatcher_octets : Dispatcher → List ℕ
-dispatcher_octets d =
-    sender_fields d.sender
-    (d.first ∷ d.waiting ∷ d.closed ∷ d.grace
-    ∷ low_octet (length_at d 0) ∷ high_octet (length_at d 0) ∷ low_octet (length_at d 1) ∷ high_octet (length_at d 1)
-    ∷ low_octet (length_at d 2) ∷ high_octet (length_at d 2) ∷ low_octet (length_at d 3) ∷ high_octet (length_at d 3)
-    ∷ low_octet (length_at d 4) ∷ high_octet (length_at d 4) ∷ low_octet (length_at d 5) ∷ high_octet (length_at d 5)
-    ∷ low_octet (length_at d 6) ∷ high_octet (length_at d 6) ∷ low_octet (length_at d 7) ∷ high_octet (length_at d 7) ∷ [])
+    ∷ s.left ∷ s.zeros ∷ replicate 20 0
 
 -- ---- the plain sender
 

@@ -11,8 +11,8 @@ use Rattle.link.specs.declared.receiver.LastBlock.TheVariants.{BlockD0 as block_
 use Rattle.link.specs.declared.receiver.Mode.TheVariants.{Off as kept_off, Cobs as cobs, Plain as plain, Escaped as escape_open}
 use Rattle.link.specs.Receiver.{fresh}
 use Rattle.kutarehopa.specs.Numbers.{number, sent_number}
-use Rattle.kutarehopa.specs.Calls.{reading_of, open_receiver, open_sender, open_pair, open_dispatcher, high_call, plain_send_call}
-use Rattle.kutarehopa.specs.Layout.{spell_receiver, receiver_in, receiver_octets, spell_sender, sender_octets, dispatcher_octets, spell_plain_sender, plain_sender_octets}
+use Rattle.kutarehopa.specs.Calls.{reading_of, open_receiver, open_sender, open_pair, plain_send_call}
+use Rattle.kutarehopa.specs.Layout.{spell_receiver, receiver_in, receiver_octets, spell_sender, sender_octets, spell_plain_sender, plain_sender_octets}
 
 -- 32 octets of marks, each another; and the octets of a plain sender behind octet 0
 abbrev pub all_other : List ℕ
@@ -22,16 +22,6 @@ all_other =
 
 abbrev pub plain_sender_with : List ℕ → List ℕ
 plain_sender_with marks = 16 ∷ 0 ∷ 8 ∷ (marks ++ replicate 28 0xAA)
-
--- a dispatcher with 16 bits and the limit 2: so many packets of two octets wait, from place 0 on
-abbrev pub dispatcher_with : ℕ → List ℕ → List ℕ
-dispatcher_with n lengths = 1 ∷ 16 ∷ 2 ∷ (replicate 16 0 ++ (n ∷ 0 ∷ 0 ∷ (lengths ++ replicate 26 0xAA)))
-
-abbrev pub seven_wait : List ℕ
-seven_wait = dispatcher_with 7 (2 ∷ 0 ∷ 2 ∷ 0 ∷ 2 ∷ 0 ∷ 2 ∷ 0 ∷ 2 ∷ 0 ∷ 2 ∷ 0 ∷ 2 ∷ 0 ∷ 0 ∷ 0 ∷ [])
-
-abbrev pub eight_wait : List ℕ
-eight_wait = dispatcher_with 8 (2 ∷ 0 ∷ 2 ∷ 0 ∷ 2 ∷ 0 ∷ 2 ∷ 0 ∷ 2 ∷ 0 ∷ 2 ∷ 0 ∷ 2 ∷ 0 ∷ 2 ∷ 0 ∷ [])
 
 pub record MarkedOctets : Type 0 where
   -- a receiver with another value in each field
@@ -93,26 +83,6 @@ pub record MarkedOctets : Type 0 where
     zeros = 0;
   })
       ≡ 1 ∷ 16 ∷ 2 ∷ 0 ∷ 0 ∷ 1 ∷ 0 ∷ 1 ∷ 4 ∷ 0 ∷ 5 ∷ 0 ∷ replicate 26 0
-  -- a dispatcher: its sender's, and its own
-  pub dispatcher : dispatcher_octets (record {
-    sender =
-        record {
-          settings = record { octet = 3; width = 32; limit = 0x0C0B };
-          on = sending high;
-          suspended = true;
-          cut = false;
-          low = record { length = 0x0201; position = 0x0403 };
-          high = record { length = 0x0605; position = 0x0807 };
-          left = 9;
-          zeros = 10;
-        };
-    first = 0x20;
-    waiting = 0x21;
-    closed = 0x22;
-    grace = 0x23;
-    lengths = 0x1110 ∷ 0x1312 ∷ 0x1514 ∷ 0x1716 ∷ 0x1918 ∷ 0x1B1A ∷ 0x1D1C ∷ 0x1F1E ∷ [];
-  })
-      ≡ 1 ∷ 32 ∷ 0x0B ∷ 0x0C ∷ 3 ∷ 2 ∷ 1 ∷ 0 ∷ 1 ∷ 2 ∷ 3 ∷ 4 ∷ 5 ∷ 6 ∷ 7 ∷ 8 ∷ 9 ∷ 10 ∷ 0x20 ∷ 0x21 ∷ 0x22 ∷ 0x23 ∷ take 16 all_other
   -- a plain sender
   pub plain_sender : plain_sender_octets (record { width = 32; limit = 0x0302; marks = all_other }) ≡ 1 ∷ 32 ∷ 2 ∷ 3 ∷ all_other
   -- opened, in memory that held something else; and not
@@ -125,8 +95,6 @@ pub record MarkedOctets : Type 0 where
       }
   pub opened_sender : open_sender (replicate 64 0xAA) (record { octet = 2; width = 32; limit = 16384 })
       ≡ record { answer = 0x04000000; state = 1 ∷ 32 ∷ 0 ∷ 0x40 ∷ 2 ∷ (replicate 33 0 ++ replicate 26 0xAA) }
-  pub opened_dispatcher : open_dispatcher (replicate 64 0xAA) (record { octet = 2; width = 32; limit = 16384 })
-      ≡ record { answer = 0x04000000; state = 1 ∷ 32 ∷ 0 ∷ 0x40 ∷ 2 ∷ (replicate 33 0 ++ replicate 26 0xAA) }
   pub opened_pair : open_pair (replicate 64 0xAA) (replicate 64 0xBB) (bits16 3) 0xFFFFFFFF (replicate 4 0xFF ++ replicate 28 0)
       ≡ record {
         answer = 0x04000000;
@@ -137,21 +105,12 @@ pub record MarkedOctets : Type 0 where
       ≡ record { answer = 0x03000003; state = replicate 64 0xAA }
   pub refused_sender : open_sender (replicate 64 0xAA) (record { octet = 3; width = 0; limit = 16385 })
       ≡ record { answer = 0x03000017; state = replicate 64 0xAA }
-  pub refused_dispatcher : open_dispatcher (replicate 64 0xAA) (record { octet = 3; width = 24; limit = 2 })
-      ≡ record { answer = 0x03000003; state = replicate 64 0xAA }
-  pub refused_dispatcher_limit : open_dispatcher (replicate 64 0xAA) (record { octet = 3; width = 24; limit = 16385 })
-      ≡ record { answer = 0x03000017; state = replicate 64 0xAA }
   pub refused_pair : open_pair (replicate 64 0xAA) (replicate 64 0xBB) (bits16 3) 0x00000001 (replicate 32 0)
       ≡ record { answer = 0x03000013; sender = replicate 64 0xAA; receiver = replicate 64 0xBB }
   pub refused_width : open_pair (replicate 64 0xAA) (replicate 64 0xBB) (record { octet = 3; width = 8; limit = 2 }) 0x00000001 (replicate 32 0)
       ≡ record { answer = 0x03000003; sender = replicate 64 0xAA; receiver = replicate 64 0xBB }
   pub refused_limit : open_pair (replicate 64 0xAA) (replicate 64 0xBB) (record { octet = 3; width = 8; limit = 1 }) 0x00000001 (replicate 32 0)
       ≡ record { answer = 0x03000017; sender = replicate 64 0xAA; receiver = replicate 64 0xBB }
-  -- a high load, where seven wait: at the last place; and where eight do
-  pub high_load : high_call seven_wait (0x41 ∷ 0x42 ∷ []) (replicate 17 0xAA)
-      ≡ record { answer = 0x04000000; state = eight_wait; area = replicate 14 0xAA ++ (0x41 ∷ 0x42 ∷ 0xAA ∷ []) }
-  pub full_line : high_call eight_wait (0x41 ∷ 0x42 ∷ []) (replicate 17 0xAA)
-      ≡ record { answer = 0x03000016; state = eight_wait; area = replicate 17 0xAA }
   -- a plain send, from the octets of a sender
   pub plain_send : plain_send_call (1 ∷ plain_sender_with framing) (take 8 lcp) (replicate 12 0xAA) ≡ record { answer = 0x0700000B; area = lcp ++ (0x7E ∷ 0xAA ∷ []) }
   pub plain_short : plain_send_call (1 ∷ plain_sender_with framing) (take 8 lcp) (replicate 10 0xAA) ≡ record { answer = 0x03000002; area = replicate 10 0xAA }
@@ -182,7 +141,6 @@ pub record MarkedNumbers : Type 0 where
   pub quiet : number quiet ≡ 0
   pub packet : number (packet true 0x0708) ≡ 0x01010708
   pub held : number (held 0x0203 false) ≡ 0x02000203
-  pub line_full : number (refused 22) ≡ 0x03000016
   pub refused : number (refused 14) ≡ 0x0300000E
   pub done : number done ≡ 0x04000000
   pub octet : number (octet 0x7E) ≡ 0x0500007E

@@ -4,8 +4,7 @@ use Rattle.fcs.specs.Notation.{if◌then◌else◌}
 use Rattle.link.specs.declared.sender.Sender.{Sender}
 use Rattle.link.specs.declared.receiver.Receiver.{Receiver}
 use Rattle.link.specs.declared.plain_sender.PlainSender.{PlainSender}
-use Rattle.dispatcher.specs.declared.Dispatcher.{Dispatcher}
-use Rattle.kutarehopa.specs.Layout.{octet_at, octets_from, mark_at, spell_receiver, receiver_in, receiver_octets, spell_sender, sender_in, sender_octets, dispatcher_in, dispatcher_octets, spell_plain_sender, plain_sender_in, plain_sender_octets, over}
+use Rattle.kutarehopa.specs.Layout.{octet_at, octets_from, mark_at, spell_receiver, receiver_in, receiver_octets, spell_sender, sender_in, sender_octets, spell_plain_sender, plain_sender_in, plain_sender_octets, over}
 
 -- ---- the places that are looked at
 
@@ -20,25 +19,19 @@ receiver_places m = places_if_held (mark_at m 13)
 abbrev pub sender_places : List ℕ
 sender_places = 0 ∷ 1 ∷ 2 ∷ 3 ∷ 4 ∷ 5 ∷ 6 ∷ 7 ∷ 8 ∷ 9 ∷ 10 ∷ 11 ∷ 12 ∷ 13 ∷ 14 ∷ 15 ∷ 16 ∷ 17 ∷ []
 
--- the octets that stand there; of a dispatcher the first 38, and of a plain sender the first 36
+-- the octets that stand there; of a plain sender the first 36
 abbrev pub octets_at : List ℕ → List ℕ → List ℕ
 octets_at m places = map (λ (i : ℕ). octet_at m i) places
-
-abbrev pub dispatcher_part : List ℕ → List ℕ
-dispatcher_part m = octets_from m 0 38
 
 abbrev pub plain_sender_part : List ℕ → List ℕ
 plain_sender_part m = octets_from m 0 36
 
 -- ---- and back
 
--- A packed state spells itself, whatever stood in the memory before. A dispatcher has eight lengths and a plain sender 32 octets of marks, as the
--- code's arrays have.
+-- A packed state spells itself, whatever stood in the memory before.
 pub record PackedSpellsItself : Type 0 where
   pub receiver : (r : Receiver) (m : List ℕ) → (spell_receiver (over (receiver_octets r) m) ≡ true) × (receiver_in (over (receiver_octets r) m) ≡ r)
   pub sender : (s : Sender) (m : List ℕ) → (spell_sender (over (sender_octets s) m) ≡ true) × (sender_in (over (sender_octets s) m) ≡ s)
-  pub dispatcher : (d : Dispatcher) (m : List ℕ) → length d.lengths ≡ 8
-      → (spell_sender (over (dispatcher_octets d) m) ≡ true) × (dispatcher_in (over (dispatcher_octets d) m) ≡ d)
   pub plain_sender : (s : PlainSender) (m : List ℕ) → length s.marks ≡ 32
       → (spell_plain_sender (over (plain_sender_octets s) m) ≡ true) × (plain_sender_in (over (plain_sender_octets s) m) ≡ s)
 
@@ -48,8 +41,6 @@ pub record PackedAgain : Type 0 where
       → octets_at (over (receiver_octets (receiver_in m)) m) (receiver_places m) ≡ octets_at m (receiver_places m)
   pub sender : (m : List ℕ) → ((i : ℕ) → octet_at m i < 256) → spell_sender m ≡ true
       → octets_at (over (sender_octets (sender_in m)) m) sender_places ≡ octets_at m sender_places
-  pub dispatcher : (m : List ℕ) → ((i : ℕ) → octet_at m i < 256) → spell_sender m ≡ true
-      → dispatcher_part (over (dispatcher_octets (dispatcher_in m)) m) ≡ dispatcher_part m
   pub plain_sender : (m : List ℕ) → ((i : ℕ) → octet_at m i < 256) → spell_plain_sender m ≡ true
       → plain_sender_part (over (plain_sender_octets (plain_sender_in m)) m) ≡ plain_sender_part m
 
@@ -58,6 +49,5 @@ pub record LooksNowhereElse : Type 0 where
   pub receiver : (m n : List ℕ) → octets_at n (receiver_places m) ≡ octets_at m (receiver_places m)
       → (spell_receiver n ≡ spell_receiver m) × (receiver_in n ≡ receiver_in m)
   pub sender : (m n : List ℕ) → octets_at n sender_places ≡ octets_at m sender_places → (spell_sender n ≡ spell_sender m) × (sender_in n ≡ sender_in m)
-  pub dispatcher : (m n : List ℕ) → dispatcher_part n ≡ dispatcher_part m → (spell_sender n ≡ spell_sender m) × (dispatcher_in n ≡ dispatcher_in m)
   pub plain_sender : (m n : List ℕ) → plain_sender_part n ≡ plain_sender_part m
       → (spell_plain_sender n ≡ spell_plain_sender m) × (plain_sender_in n ≡ plain_sender_in m)

@@ -1,32 +1,27 @@
 // The calls for C (include/kutarehopa.h, docs/CLIBRARY.md), on states that the caller keeps as 64 octets. specs/Calls.antt says what each
 // answers and leaves.
-ghost use Rattle.std.specs.Prelude.{◌≡◌, ◌||◌, List, ℕ, ◌+◌, ◌*◌, ltb, length};
+ghost use Rattle.std.specs.Prelude.{◌≡◌, ◌||◌, ◌+◌, ◌*◌, ltb, length};
 ghost use Rattle.fcs.specs.CheckSequence.{check16, check32, feed};
 ghost use Rattle.link.specs.Agreed.{agreed, largest_frame, most_decoded};
-ghost use Rattle.link.specs.Answers.{load_answer};
 ghost use Rattle.link.specs.Sender.{SenderEnd, load, next, seen};
 ghost use Rattle.link.specs.Receiver.{receive};
 ghost use Rattle.link.specs.PlainSender.{plain_send};
 ghost use Rattle.link.specs.declared.sender.Lane.TheVariants.{Low as low_lane, High as high_lane};
-ghost use Rattle.dispatcher.specs.Dispatcher.{line_length, load_low, load_high};
-ghost use Rattle.dispatcher.specs.Dispatcher as rule;
 ghost use Rattle.reader.specs.Reading.{read_on};
 ghost use Rattle.writer.specs.Writing.{write_on, onto};
 ghost use Rattle.kutarehopa.specs.Layout.{settings_in};
-ghost use Rattle.kutarehopa.specs.Calls.{no_state, reading_of, open_receiver, open_sender, open_pair, received, receive_call, read_to, read_call, loaded, load_call, sent, next_call, wrote, write_call, open_dispatcher, dispatcher_loaded, low_call, high_call, dispatched, dispatch_call, no_plain_sender, plain_sent, plain_send_call};
+ghost use Rattle.kutarehopa.specs.Calls.{no_state, reading_of, open_receiver, open_sender, open_pair, received, receive_call, read_to, read_call, loaded, load_call, sent, next_call, wrote, write_call, no_plain_sender, plain_sent, plain_send_call};
 ghost use Rattle.kutarehopa.specs.Numbers.{NumbersComeApart, ReportsHaveNumbers, SendsHaveNumbers};
 ghost use Rattle.kutarehopa.specs.Spelling.{PackedSpellsItself, PackedAgain, LooksNowhereElse};
 ghost use Rattle.kutarehopa.specs.AsTheCalls.{OpenedIsPacked, OnPackedStates, RunsAsLink, AsPackedAgain, NoCallMade, RefusedLeavesAll, NoOctetNoChange, NoStateIsOutOfBounds, RestStays};
 ghost use Rattle.kutarehopa.specs.Marked.{MarkedOctets, MarkedNumbers};
 
-use dispatcher::Dispatcher;
 use link::Settings;
 use link::plain_sender::PlainSender;
 use link::receiver::{PlainReading, Receiver};
 use link::sender::{Lane, LoadAnswer, NextAnswer, Sender};
 
 mod answers;
-mod dispatcher_state;
 mod plain_sender;
 mod receiver;
 mod sender;
@@ -364,135 +359,6 @@ pub extern "C" fn kuta_write_on(
     }
     let before = sender::unpack(state);
     wrote(state, before, low, high, line)
-}
-
-// ---- the dispatcher
-
-#[unsafe(no_mangle)]
-pub extern "C" fn kuta_dispatcher_open(
-    state: &mut [u8; 64],
-    settings: u8,
-    width: u8,
-    limit: u16,
-) -> u32
-    ensures { record { answer = result; state = state.new } ≡ open_dispatcher state.old (record { octet = settings; width = width; limit = limit }) }
-{
-    let opening = dispatcher::open(Settings {
-        octet: settings,
-        width,
-        limit,
-    });
-    if opening.refused == 0 {
-        dispatcher_state::pack(state, opening.state);
-        return answers::done();
-    }
-    answers::refused(opening.refused)
-}
-
-// The octets after a load, and its answer.
-fn waits(state: &mut [u8; 64], after: Dispatcher, answer: LoadAnswer) -> u32
-    ensures { (area : List ℕ) → record { answer = result; state = state.new; area = area }
-        ≡ dispatcher_loaded state.old (record { answer = load_answer answer; state = after; area = area }) }
-{
-    match answer {
-        LoadAnswer::Done => {
-            dispatcher_state::pack(state, after);
-            answers::done()
-        }
-        LoadAnswer::Refused(n) => answers::refused(n),
-    }
-}
-
-#[unsafe(no_mangle)]
-pub extern "C" fn kuta_dispatcher_load_low(
-    state: &mut [u8; 64],
-    packet: &[u8],
-    area: &mut [u8],
-) -> u32
-    ensures { record { answer = result; state = state.new; area = area.new }
-        ≡ low_call state.old packet.now area.old }
-{
-    if !sender::spells(state) {
-        let settings = settings_in(state);
-        return no_state(settings, area.len() < settings.largest_frame());
-    }
-    let before = dispatcher_state::unpack(state);
-    let call = before.load_low(packet, area);
-    let after = call.state;
-    let answer = call.answer;
-    waits(state, after, answer)
-}
-
-// A line of this length is too short.
-fn short_for_line(settings: Settings, line: usize) -> bool
-    ensures { result ≡ ltb line (line_length (agreed settings)) }
-{
-    line < dispatcher::PLACES * settings.limit as usize
-}
-
-#[unsafe(no_mangle)]
-pub extern "C" fn kuta_dispatcher_load_high(
-    state: &mut [u8; 64],
-    packet: &[u8],
-    line: &mut [u8],
-) -> u32
-    ensures { record { answer = result; state = state.new; area = line.new }
-        ≡ high_call state.old packet.now line.old }
-{
-    if !sender::spells(state) {
-        let settings = settings_in(state);
-        return no_state(settings, short_for_line(settings, line.len()));
-    }
-    let before = dispatcher_state::unpack(state);
-    let call = before.load_high(packet, line);
-    let after = call.state;
-    let answer = call.answer;
-    waits(state, after, answer)
-}
-
-// Next octet of the dispatcher, on the state that the octets spell.
-fn dispatched(
-    state: &mut [u8; 64],
-    before: Dispatcher,
-    low: &[u8],
-    high: &mut [u8],
-    line: &[u8],
-) -> u32
-    ensures { record { answer = result; state = state.exit.now; high = high.new }
-        ≡ dispatched state.entry.now (rule.seen (rule.next (record { state = before; low = low.now; high = high.old; line = line.now }))) }
-{
-    let call = before.next_octet(low, high, line);
-    let after = call.state;
-    let answer = call.answer;
-    let told = answers::of_next(answer);
-    match answer {
-        NextAnswer::Octet(_) => {
-            dispatcher_state::pack(state, after);
-            told
-        }
-        NextAnswer::Idle => told,
-        NextAnswer::Refused(_) => told,
-    }
-}
-
-#[unsafe(no_mangle)]
-pub extern "C" fn kuta_dispatcher_next(
-    state: &mut [u8; 64],
-    low: &[u8],
-    high: &mut [u8],
-    line: &[u8],
-) -> u32
-    ensures { record { answer = result; state = state.new; high = high.new }
-        ≡ dispatch_call state.old low.now high.old line.now }
-{
-    if !sender::spells(state) {
-        let settings = settings_in(state);
-        let short = short_for_sender(settings, low.len(), high.len())
-            | short_for_line(settings, line.len());
-        return no_state(settings, short);
-    }
-    let before = dispatcher_state::unpack(state);
-    dispatched(state, before, low, high, line)
 }
 
 // ---- plain PPP

@@ -13,10 +13,10 @@ use lib.Seq.{take-nil, take-append_seam}
 use Rattle.cobs.specs.CodeBlocks.{frame, uninterrupted}
 use Rattle.link.specs.Agreed.{Settings, Agreed, agreed, least_packet, largest_frame, valid}
 use Rattle.link.specs.Answers.{idle}
-use Rattle.link.specs.Sender.{Lane, low, high, LaneState, Out, closes, breaks_off, sends, sends_nothing, refuses, lane_state, lane_area, out_answer, loaded, Load, next_by, next, put_frame, load, no_guards}
+use Rattle.link.specs.Sender.{Lane, low, high, LaneState, Out, closes, breaks_off, sends, sends_nothing, refuses, lane_state, lane_area, out_answer, loaded, Load, next, put_frame, load}
 use Rattle.link.specs.SenderParts.{SenderReady}
 use Rattle.link.specs.Receiver.{PlainReading, Receive}
-use Rattle.link.specs.Runs.{Station, Written, SenderCall, loading, next_octet_by, next_octet, fresh_station, lane_packet, lanes_after, same_lane, is_done, loaded_by, after_load, after_next_by, after_next, run, loaded_into, writes, written, written_octets, sent_by, at_true, receives, packet_in, present, packets_in, closed_by, closed_packets}
+use Rattle.link.specs.Runs.{Station, Written, SenderCall, loading, next_octet, fresh_station, lane_packet, lanes_after, same_lane, is_done, loaded_by, after_load, after_next, run, loaded_into, writes, written, written_octets, sent_by, at_true, receives, packet_in, present, packets_in, closed_by, closed_packets}
 use Rattle.link.specs.Progress.{BothEmpty, calls_to_empty, BeginsNext, next_calls, SendsOf, PacketUninterrupted}
 use Rattle.link.specs.Demands.{fresh_receiver, LongEnough, NothingLoadedIsLost, Delivery}
 use Rattle.link.proofs.Follow.{frame-long}
@@ -28,17 +28,17 @@ use Rattle.link.proofs.Progress.{ready-put, ready-run, idle-if-empty, emptied}
 use Rattle.link.proofs.Uninterrupted.{sent-uninterrupted}
 
 -- the packet of a lane, as a list of one or none
-abbrev pub as_list : Option (List ℕ) → List (List ℕ)
+abbrev as_list : Option (List ℕ) → List (List ℕ)
 as_list m = present (m ∷ [])
 
 -- what the octets of a lane close
-abbrev pub closing : Written → Option (List ℕ)
+abbrev closing : Written → Option (List ℕ)
 closing x = closed_by x.out x.sent_for
 
-abbrev pub closings : Lane → List Written → List (Option (List ℕ))
+abbrev closings : Lane → List Written → List (Option (List ℕ))
 closings l es = map closing (at_true (sent_by l es) es)
 
-abbrev pub closed_of : Lane → List Written → List (List ℕ)
+abbrev closed_of : Lane → List Written → List (List ℕ)
 closed_of l es = present (closings l es)
 
 -- ---- lane by lane
@@ -92,14 +92,14 @@ next-takes high sends_nothing w es ys zs h = h
 next-takes low (refuses n) w es ys zs h = h
 next-takes high (refuses n) w es ys zs h = h
 
-pub lane-by-lane : (g : Agreed) (l : Lane) (w : Station) (cs : List SenderCall) → Sound g w
+lane-by-lane : (g : Agreed) (l : Lane) (w : Station) (cs : List SenderCall) → Sound g w
     → closed_of l (written w cs) ++ as_list (lane_packet l (run w cs).lanes) ≡ as_list (lane_packet l w.lanes) ++ loaded_into l w cs
-unfolding written run loaded_into after_next_by
+unfolding written run loaded_into after_next
 lane-by-lane g l w [] i = sym (append-nil _)
 lane-by-lane g l w (loading k p ∷ cs) i =
     lane-by-lane g l (after_load k p w) cs (sound-load g k p w i) ∙ load-adds g p w i (loaded_into l (after_load k p w) cs) l k
-lane-by-lane g l w (next_octet_by gs ∷ cs) i =
-    next-takes l (next_by gs w.end).out w (written (after_next_by gs w) cs) _ _ (lane-by-lane g l (after_next_by gs w) cs (sound-next g gs w i))
+lane-by-lane g l w (next_octet ∷ cs) i =
+    next-takes l (next w.end).out w (written (after_next w) cs) _ _ (lane-by-lane g l (after_next w) cs (sound-next g w i))
 
 -- ---- nothing is lost
 
@@ -108,7 +108,7 @@ unfolding loaded_into
 loads-only l w [] zero = refl
 loads-only l w [] (suc n) = loads-only l (after_next w) [] n
 loads-only l w (loading k p ∷ cs) n = rw (loads-only l (after_load k p w) cs n)
-loads-only l w (next_octet_by gs ∷ cs) n = loads-only l (after_next_by gs w) cs n
+loads-only l w (next_octet ∷ cs) n = loads-only l (after_next w) cs n
 
 map-at-true : (f : Receive → Option (List ℕ)) (bs : List Bool) (hs : List Receive) → map f (at_true bs hs) ≡ at_true bs (map f hs)
 map-at-true f [] hs = refl
@@ -157,7 +157,7 @@ module _ (t : Settings) (reading : PlainReading) (v : valid (agreed t) ≡ true)
     empty = rw (run-append fresh cs (replicate n next_octet)) (emptied (run fresh cs) (ready-run fresh cs ready) n enough)
 
     ends-idle : out_answer (next (run fresh all).end).out ≡ idle
-    ends-idle = idle-if-empty.always no_guards (run fresh all).end (ready-run fresh all ready) empty
+    ends-idle = idle-if-empty.always (run fresh all).end (ready-run fresh all ready) empty
 
     none_left : (l : Lane) → lane_packet l (run fresh all).lanes ≡ none
     none_left low = none-held (agreed t) _ _ _ (sound-run (agreed t) fresh all (sound-fresh t al ah)).stock-low empty.low
@@ -282,12 +282,12 @@ module _ (t : Settings) (v : valid (agreed t) ≡ true) (al ah : List ℕ) (h : 
   not-empty : loaded (record { length = length (frame (agreed t).check p); position = 0 }) ≡ true
   not-empty = lt-ltb 0 (length (frame (agreed t).check p)) (omega (arith, frame-long (agreed t) p))
 
-  begins-next : (l : Lane) → BeginsNext no_guards l (holds l).end.state
+  begins-next : (l : Lane) → BeginsNext l (holds l).end.state
   unfolding put_frame
   begins-next low =
-      record { free = refl; start = refl; holds = not-empty; high_empty = λ _. refl; not_suspended = λ _. refl; not_ahead = refl }
+      record { free = refl; start = refl; holds = not-empty; high_empty = λ _. refl; not_suspended = λ _. refl }
   begins-next high =
-      record { free = refl; start = refl; holds = not-empty; high_empty = bounds.low-high; not_suspended = bounds.low-high; not_ahead = refl }
+      record { free = refl; start = refl; holds = not-empty; high_empty = bounds.low-high; not_suspended = bounds.low-high }
 
   frame-there : (l : Lane) → take (lane_state l (holds l).end.state).length (lane_area l (holds l).end) ≡ frame (agreed t).check p
   unfolding put_frame
@@ -310,7 +310,7 @@ module _ (t : Settings) (v : valid (agreed t) ≡ true) (al ah : List ℕ) (h : 
       ≡ uninterrupted (agreed t).zxe (frame (agreed t).check p) = rw (settings-there l, frame-there l) in
       subst (λ (a : Load). Sent (loaded_by a l p (fresh_station t al ah)) (uninterrupted (agreed t).zxe (frame (agreed t).check p))) (sym (takes l))
       (subst (Sent (holds l)) is
-      (rw (next-calls n, add-one n) at (sent-uninterrupted no_guards l (holds l) r (begins-next l) calls (λ _ _. loads-only high (after_next (holds l)) [] n))))
+      (rw (next-calls n, add-one n) at (sent-uninterrupted l (holds l) r (begins-next l) calls (λ _ _. loads-only high (after_next (holds l)) [] n))))
 
 pub packet-uninterrupted : PacketUninterrupted
 packet-uninterrupted t v al ah h k l p big small n = sends-it t v al ah h k p big small l n

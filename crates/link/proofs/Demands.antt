@@ -12,11 +12,11 @@ use Rattle.fcs.specs.CheckSequence as check
 use Rattle.cobs.specs.CodeBlocks.{flag}
 use Rattle.link.specs.Agreed.{Settings, Agreed, agreed, most_decoded, valid}
 use Rattle.link.specs.Answers.{Answer, done, octet, idle, quiet, packet, held, refused}
-use Rattle.link.specs.Sender.{Guards, Lane, low, high, OnLine, no_lane, sending, LaneState, Out, closes, breaks_off, sends, sends_nothing, refuses, out_answer, next_by, next}
+use Rattle.link.specs.Sender.{Lane, low, high, OnLine, no_lane, sending, LaneState, Out, closes, breaks_off, sends, sends_nothing, refuses, out_answer, next}
 use Rattle.link.specs.Receiver.{PlainReading, reading_off, reading_on, ReceiverEnd, Receive, is_held, is_plain, receive}
 use Rattle.link.specs.Receiver as receiver
 use Rattle.link.specs.ReceiverParts.{ReceiverReady}
-use Rattle.link.specs.Runs.{receives, received, Station, Written, SenderCall, loading, next_octet_by, fresh_station, writes, written, written_octets, at_true, at_false, packet_in, refusal_in, refusal_of, stands_for, present, refusals_in, under_way, ends_its_frame, aside_after, left_aside, replaces_after, AllArrive, ExpectedReport, AllAsExpected, closed_by, run, after_load, after_next_by}
+use Rattle.link.specs.Runs.{receives, received, Station, Written, SenderCall, loading, next_octet, fresh_station, writes, written, written_octets, at_true, at_false, packet_in, refusal_in, refusal_of, stands_for, present, refusals_in, under_way, ends_its_frame, aside_after, left_aside, replaces_after, AllArrive, ExpectedReport, AllAsExpected, closed_by, run, after_load, after_next}
 use Rattle.link.specs.Demands.{fresh_receiver, PacketsComeThrough, SoundLine, AfterChosenFlag, frame_began_ff, Demand3}
 use Rattle.link.proofs.Cobs.{cobs_receive, cobs_receives, in-cobs}
 use Rattle.link.proofs.Agreed.{sound-check}
@@ -57,9 +57,9 @@ unfolding written cobs_receives
 answered g law m b s w [] e i k = tt
 answered g law m b s w (loading l p ∷ cs) e i k =
     answered g law m b s (after_load l p w) cs e (sound-load g l p w i) (lock-load g m b s l p w e i k)
-answered g law m b s w (next_octet_by gs ∷ cs) e i k =
-    writes-answered g m b s (next_by gs w.end).out w (after_next_by gs w) (written (after_next_by gs w) cs) e (lock-next g gs law m b s w e i k)
-    (λ b' s' e' k'. answered g law m b' s' (after_next_by gs w) cs e' (sound-next g gs w i) k')
+answered g law m b s w (next_octet ∷ cs) e i k =
+    writes-answered g m b s (next w.end).out w (after_next w) (written (after_next w) cs) e (lock-next g law m b s w e i k)
+    (λ b' s' e' k'. answered g law m b' s' (after_next w) cs e' (sound-next g w i) k')
 
 -- ---- what is left aside, and all else
 
@@ -214,45 +214,45 @@ under-way-high : (o : OnLine) (u : Bool) → o ≡ no_lane → under_way_by high
 under-way-high no_lane u e = refl
 under-way-high (sending l) u e = absurd (let i : ◌≡◌ {A = ℕ} 0 1 = cc in omega arith)
 
-up-to-flag : (t : Settings) (a b : List ℕ) (l : Lane) (before : List SenderCall) (gs : Guards)
-    → under_way l false (written (fresh_station t a b) (before ++ (next_octet_by gs ∷ []))) ≡ under_way_in l (after_next_by gs (run (fresh_station t a b) before))
+up-to-flag : (t : Settings) (a b : List ℕ) (l : Lane) (before : List SenderCall)
+    → under_way l false (written (fresh_station t a b) (before ++ (next_octet ∷ []))) ≡ under_way_in l (after_next (run (fresh_station t a b) before))
 unfolding run
-up-to-flag t a b l before gs =
+up-to-flag t a b l before =
     let w = fresh_station t a b in
-    ap (λ (c : Bool). under_way l c (written w (before ++ (next_octet_by gs ∷ [])))) (sym (none_yet l))
-    ∙ (under-way (agreed t) l w (before ++ (next_octet_by gs ∷ [])) (sound-fresh t a b) ∙ ap (under_way_in l) (run-append w before (next_octet_by gs ∷ [])))
+    ap (λ (c : Bool). under_way l c (written w (before ++ (next_octet ∷ [])))) (sym (none_yet l))
+    ∙ (under-way (agreed t) l w (before ++ (next_octet ∷ [])) (sound-fresh t a b) ∙ ap (under_way_in l) (run-append w before (next_octet ∷ [])))
   where
     none_yet : (l : Lane) → under_way_by l no_lane false ≡ false
     none_yet low = refl
     none_yet high = refl
 
 -- of document 01's receiver, from the flag on
-module _ (t : Settings) (v-t : valid (agreed t) ≡ true) (a b : List ℕ) (before after : List SenderCall) (gs : Guards) (e₁ : ReceiverEnd)
+module _ (t : Settings) (v-t : valid (agreed t) ≡ true) (a b : List ℕ) (before after : List SenderCall) (e₁ : ReceiverEnd)
     (r : Ready (agreed t) e₁) (out : e₁.state.framed ≡ false) where
   abbrev v : Station
   v = fresh_station t a b
 
-  after-flag : out_answer (next_by gs (run v before).end).out ≡ octet flag
-      → (let w₁ = after_next_by gs (run v before) in
+  after-flag : out_answer (next (run v before).end).out ≡ octet flag
+      → (let w₁ = after_next (run v before) in
       let es = written w₁ after in
-      AfterChosenFlag (written v (before ++ (next_octet_by gs ∷ []))) w₁ e₁ es (cobs_receives e₁ (written_octets es)))
+      AfterChosenFlag (written v (before ++ (next_octet ∷ []))) w₁ e₁ es (cobs_receives e₁ (written_octets es)))
   after-flag f =
       let g = agreed t in
       let w = run v before in
-      let w₁ = after_next_by gs w in
+      let w₁ = after_next w in
       let p = w₁.end.state in
       let u = p.suspended in
       let i : Sound g w = sound-run g v before (sound-fresh t a b) in
-      let off : p.on ≡ no_lane = flag_off g gs w i f in
-      let is : under_way low false (written v (before ++ (next_octet_by gs ∷ []))) ≡ u = up-to-flag t a b low before gs ∙ under-way-low p.on u off in
+      let off : p.on ≡ no_lane = flag_off g w i f in
+      let is : under_way low false (written v (before ++ (next_octet ∷ []))) ≡ u = up-to-flag t a b low before ∙ under-way-low p.on u off in
       let k : Lock g w₁.lanes.low u (not u && is_held e₁.state.held) w₁ e₁ =
       start g p.low p.high p.left p.zeros p.settings w₁.end.low w₁.end.high w₁.lanes.low w₁.lanes.high e₁
       p.on u p.cut off r out in
       let es = written w₁ after in
       let hs = cobs_receives e₁ (written_octets es) in
-      let all = answered g (sound-check t) w₁.lanes.low u (not u && is_held e₁.state.held) w₁ after e₁ (sound-next g gs w i) k in
+      let all = answered g (sound-check t) w₁.lanes.low u (not u && is_held e₁.state.held) w₁ after e₁ (sound-next g w i) k in
       record {
-        one = up-to-flag t a b high before gs ∙ under-way-high p.on u off;
+        one = up-to-flag t a b high before ∙ under-way-high p.on u off;
         suspended = is;
         arrive = all-arrive w₁.lanes.low u (not u && is_held e₁.state.held) es hs all;
         aside = rw is (all-aside w₁.lanes.low u (not u && is_held e₁.state.held) es hs all);
@@ -260,7 +260,7 @@ module _ (t : Settings) (v-t : valid (agreed t) ≡ true) (a b : List ℕ) (befo
       }
 
 pub demand3 : (settings : Settings) (reading : PlainReading) → valid (agreed settings) ≡ true → Demand3 settings reading
-demand3 t reading v-t a b first second h₁ h₂ before after gs noise free f =
+demand3 t reading v-t a b first second h₁ h₂ before after noise free f =
     let e₀ = fresh_receiver t reading first second in
     let c = as-cobs noise e₀ (fresh-ready t reading v-t first second h₁ h₂) (fresh-reads t reading first second)
     (λ o. ap (λ (k : Bool). frame_began_ff (not k) noise) (fresh-out t reading first second) ∙ free o) in
@@ -273,12 +273,12 @@ demand3 t reading v-t a b first second h₁ h₂ before after gs noise free f =
     ap (λ (h : Receive). is_plain h.after.state.mode) (in-cobs e flag c.ready p (flag-begins e.state)) ∙ (ap is_plain (cobs-mode e flag c.ready p) ∙ p) in
     let settings-are : e₁.state.settings ≡ t = receive-settings e flag ∙ (run-settings noise e₀ ∙ fresh-settings t reading first second) in
     let r : Ready (agreed t) e₁ = subst (λ (s : Settings). Ready (agreed s) e₁) settings-are (ready_of e₁ q.ready p₁) in
-    let w₁ = after_next_by gs (run (fresh_station t a b) before) in
+    let w₁ = after_next (run (fresh_station t a b) before) in
     let es = written w₁ after in
     let i = sound-run (agreed t) (fresh_station t a b) before (sound-fresh t a b) in
     let d = as-cobs (written_octets es) e₁ q.ready p₁
-    (λ _. ap (λ (k : Bool). frame_began_ff (not k) (written_octets es)) out ∙ never-FF (agreed t) true w₁ after (sound-next (agreed t) gs _ i) (λ _. flag_off (agreed t) gs _ i f)) in
-    rw d.calls (after-flag t v-t a b before after gs e₁ r out f)
+    (λ _. ap (λ (k : Bool). frame_began_ff (not k) (written_octets es)) out ∙ never-FF (agreed t) true w₁ after (sound-next (agreed t) _ i) (λ _. flag_off (agreed t) _ i f)) in
+    rw d.calls (after-flag t v-t a b before after e₁ r out f)
 
 pub sound-line : (settings : Settings) (reading : PlainReading) → valid (agreed settings) ≡ true → SoundLine settings reading
 sound-line t reading v a b first second h₁ h₂ calls =

@@ -17,7 +17,7 @@ use Rattle.cobs.proofs.Tests.{branch, decide, and_left, and_right}
 use Rattle.cobs.proofs.Exchange.{from-line}
 use Rattle.link.specs.Agreed.{Settings, Agreed, agreed, least_frame, most_decoded, valid}
 use Rattle.link.specs.Answers.{Answer, done, octet, idle, quiet, packet, held, refused}
-use Rattle.link.specs.Sender.{Lane, low, high, OnLine, no_lane, Sender, SenderEnd, closes, Guards, Step, empty_lane, lane_state, out_answer, put_frame, load, next_by, next, Load}
+use Rattle.link.specs.Sender.{Lane, low, high, OnLine, no_lane, Sender, SenderEnd, closes, Step, empty_lane, lane_state, out_answer, put_frame, load, next, Load}
 use Rattle.link.specs.Receiver.{Fragment, nothing_held, holds, PlainReading, reading_off, reading_on, Receiver, Working, ReceiverEnd, Receive, Ended, is_no_block, is_d0, is_plain, begins_plain, write, step4_refuse, step3_write, step3_decode, step3_data, step2_by_meaning, step2_code, step1_resume_held, step1_d1, step1_first_octet, steps_1_to_4, step5_end, step5_without_phantom, step5_flag, at_flag, plain_octet, begin_plain, at_plain_flag, work, aside, put_back, flagged, receive}
 use Rattle.link.specs.Receiver as receiver
 use Rattle.link.specs.ReceiverParts.{ReceiverReady}
@@ -65,52 +65,52 @@ done-loads l p s area =
     })
 
 -- a step that the sender takes is never refused, and one that is idle changes nothing
-way-octet : {sp : Bool} {Q : Type 0} (g : Agreed) (l : Lane) (s : Sender) (d : List ℕ) (st : Step) → Way g sp l s d st → (a : Answer) → ((x : ℕ) → octet x ≡ a → ⊥) → out_answer st.out ≡ a → Q
+way-octet : {Q : Type 0} (g : Agreed) (l : Lane) (s : Sender) (d : List ℕ) (st : Step) → Way g l s d st → (a : Answer) → ((x : ℕ) → octet x ≡ a → ⊥) → out_answer st.out ≡ a → Q
 way-octet g l s d st (ends over) a f q = absurd (f _ q)
-way-octet g l s d st (cuts short e urgent i) a f q = absurd (f _ q)
-way-octet g l s d st (warns short e urgent i) a f q = absurd (f _ q)
+way-octet g l s d st (cuts short e pre urgent i) a f q = absurd (f _ q)
+way-octet g l s d st (warns short e pre urgent i) a f q = absurd (f _ q)
 way-octet g l s d st (goes x pos n z short v free) a f q = absurd (f _ q)
 
 module _ (g : Agreed) (e : SenderEnd) where
   abbrev s : Sender
   s = e.state
 
-  turn-stays : {gs : Guards} (a : Answer) → ((x : ℕ) → octet x ≡ a → ⊥) → (o : OnLine) (u c : Bool) (st : Step)
-      → Turn g gs s.low s.high s.left s.zeros s.settings e.low e.high o u c st → out_answer st.out ≡ a
+  turn-stays : (a : Answer) → ((x : ℕ) → octet x ≡ a → ⊥) → (o : OnLine) (u c : Bool) (st : Step)
+      → Turn g s.low s.high s.left s.zeros s.settings e.low e.high o u c st → out_answer st.out ≡ a
       → st.state ≡ sender s.low s.high s.left s.zeros o u c s.settings
   turn-stays a f o u c st cut-due q = absurd (f _ q)
   turn-stays a f o u c st (idles i j) q = refl
-  turn-stays a f o u c st (resumes-low i) q = absurd (f _ q)
-  turn-stays a f o u c st (begins-high k j w) q = way-octet g high _ _ st w a f q
+  turn-stays a f o u c st (resumes-low i j) q = absurd (f _ q)
+  turn-stays a f o u c st (begins-high j w) q = way-octet g high _ _ st w a f q
   turn-stays a f o u c st (begins-low i j w) q = way-octet g low _ _ st w a f q
   turn-stays a f o u c st (high-on w) q = way-octet g high _ _ st w a f q
   turn-stays a f o u c st (low-on w) q = way-octet g low _ _ st w a f q
 
-next-stays : (gs : Guards) (e : SenderEnd) (a : Answer) → ((x : ℕ) → octet x ≡ a → ⊥) → out_answer (next_by gs e).out ≡ a → (next_by gs e).state ≡ e.state
-next-stays gs e a f =
+next-stays : (e : SenderEnd) (a : Answer) → ((x : ℕ) → octet x ≡ a → ⊥) → out_answer (next e).out ≡ a → (next e).state ≡ e.state
+next-stays e a f =
     let s = e.state in
-    by_next (agreed s.settings) gs e refl (λ st. out_answer st.out ≡ a → st.state ≡ s) (λ _ _. refl)
+    by_next (agreed s.settings) e refl (λ st. out_answer st.out ≡ a → st.state ≡ s) (λ _ _. refl)
     (λ st t q. turn-stays (agreed s.settings) e a f s.on s.suspended s.cut st t q)
 
 -- the settings stay, and a closing flag leaves its lane empty
-way-settings : {sp : Bool} (g : Agreed) (s : Sender) (d : List ℕ) (l : Lane) (st : Step) → Way g sp l s d st → st.state.settings ≡ s.settings
+way-settings : (g : Agreed) (s : Sender) (d : List ℕ) (l : Lane) (st : Step) → Way g l s d st → st.state.settings ≡ s.settings
 way-settings g s d low st (ends over) = refl
 way-settings g s d high st (ends over) = refl
-way-settings g s d l st (cuts short e urgent i) = refl
-way-settings g s d l st (warns short e urgent i) = refl
+way-settings g s d l st (cuts short e pre urgent i) = refl
+way-settings g s d l st (warns short e pre urgent i) = refl
 way-settings g s d low st (goes x pos n z short v free) = refl
 way-settings g s d high st (goes x pos n z short v free) = refl
 
-next-settings : (gs : Guards) (e : SenderEnd) → (next_by gs e).state.settings ≡ e.state.settings
-next-settings gs e = by_next (agreed e.state.settings) gs e refl (λ st. st.state.settings ≡ e.state.settings) (λ _. refl) (turn-settings e.state.on e.state.suspended e.state.cut)
+next-settings : (e : SenderEnd) → (next e).state.settings ≡ e.state.settings
+next-settings e = by_next (agreed e.state.settings) e refl (λ st. st.state.settings ≡ e.state.settings) (λ _. refl) (turn-settings e.state.on e.state.suspended e.state.cut)
   where
-    turn-settings : {gs : Guards} (o : OnLine) (u c : Bool) (st : Step)
-        → Turn (agreed e.state.settings) gs e.state.low e.state.high e.state.left e.state.zeros e.state.settings e.low e.high o u c st
+    turn-settings : (o : OnLine) (u c : Bool) (st : Step)
+        → Turn (agreed e.state.settings) e.state.low e.state.high e.state.left e.state.zeros e.state.settings e.low e.high o u c st
         → st.state.settings ≡ e.state.settings
     turn-settings o u c st cut-due = refl
     turn-settings o u c st (idles i j) = refl
-    turn-settings o u c st (resumes-low i) = refl
-    turn-settings o u c st (begins-high a j w) = way-settings _ _ _ high st w
+    turn-settings o u c st (resumes-low i j) = refl
+    turn-settings o u c st (begins-high j w) = way-settings _ _ _ high st w
     turn-settings o u c st (begins-low i j w) = way-settings _ _ _ low st w
     turn-settings o u c st (high-on w) = way-settings _ _ _ high st w
     turn-settings o u c st (low-on w) = way-settings _ _ _ low st w
@@ -124,36 +124,36 @@ load-settings high p s area = sent.by-load (agreed s.settings) high p s area (λ
 abbrev Closed : Lane → Step → Type 0
 Closed l st = (lane_state l st.state ≡ empty_lane) × (st.state.on ≡ no_lane)
 
-way-closed : {sp : Bool} (g : Agreed) (s : Sender) (d : List ℕ) (k : Lane) (st : Step) → Way g sp k s d st → (l : Lane) → st.out ≡ closes l → Closed l st
+way-closed : (g : Agreed) (s : Sender) (d : List ℕ) (k : Lane) (st : Step) → Way g k s d st → (l : Lane) → st.out ≡ closes l → Closed l st
 way-closed g s d low st (ends over) low q = (refl, refl)
 way-closed g s d high st (ends over) high q = (refl, refl)
 way-closed g s d low st (ends over) high q = absurd (let z : ◌≡◌ {A = ℕ} 0 1 = cc in omega arith)
 way-closed g s d high st (ends over) low q = absurd (let z : ◌≡◌ {A = ℕ} 0 1 = cc in omega arith)
-way-closed g s d k st (cuts short e urgent i) l q = absurd (let z : ◌≡◌ {A = ℕ} 0 1 = cc in omega arith)
-way-closed g s d k st (warns short e urgent i) l q = absurd (let z : ◌≡◌ {A = ℕ} 0 1 = cc in omega arith)
+way-closed g s d k st (cuts short e pre urgent i) l q = absurd (let z : ◌≡◌ {A = ℕ} 0 1 = cc in omega arith)
+way-closed g s d k st (warns short e pre urgent i) l q = absurd (let z : ◌≡◌ {A = ℕ} 0 1 = cc in omega arith)
 way-closed g s d k st (goes x pos n z short v free) l q = absurd (let i : ◌≡◌ {A = ℕ} 0 1 = cc in omega arith)
 
 pub closed-is-empty : ClosedIsEmpty
-closed-is-empty gs e l =
-    by_next (agreed e.state.settings) gs e refl (λ st. st.out ≡ closes l → Closed l st) (λ n q. absurd (let z : ◌≡◌ {A = ℕ} 0 1 = cc in omega arith))
+closed-is-empty e l =
+    by_next (agreed e.state.settings) e refl (λ st. st.out ≡ closes l → Closed l st) (λ n q. absurd (let z : ◌≡◌ {A = ℕ} 0 1 = cc in omega arith))
     (turn-closed e.state.on e.state.suspended e.state.cut)
   where
-    turn-closed : {gs : Guards} (o : OnLine) (u c : Bool) (st : Step)
-        → Turn (agreed e.state.settings) gs e.state.low e.state.high e.state.left e.state.zeros e.state.settings e.low e.high o u c st
+    turn-closed : (o : OnLine) (u c : Bool) (st : Step)
+        → Turn (agreed e.state.settings) e.state.low e.state.high e.state.left e.state.zeros e.state.settings e.low e.high o u c st
         → st.out ≡ closes l → Closed l st
     turn-closed o u c st cut-due q = absurd (let z : ◌≡◌ {A = ℕ} 0 1 = cc in omega arith)
     turn-closed o u c st (idles i j) q = absurd (let z : ◌≡◌ {A = ℕ} 0 1 = cc in omega arith)
-    turn-closed o u c st (resumes-low i) q = absurd (let z : ◌≡◌ {A = ℕ} 0 1 = cc in omega arith)
-    turn-closed o u c st (begins-high a j w) q = way-closed _ _ _ high st w l q
+    turn-closed o u c st (resumes-low i j) q = absurd (let z : ◌≡◌ {A = ℕ} 0 1 = cc in omega arith)
+    turn-closed o u c st (begins-high j w) q = way-closed _ _ _ high st w l q
     turn-closed o u c st (begins-low i j w) q = way-closed _ _ _ low st w l q
     turn-closed o u c st (high-on w) q = way-closed _ _ _ high st w l q
     turn-closed o u c st (low-on w) q = way-closed _ _ _ low st w l q
 
 pub idle-changes-nothing : IdleChangesNothing
-idle-changes-nothing gs e = next-stays gs e idle (λ x q. let z : ◌≡◌ {A = ℕ} 0 1 = cc in omega arith)
+idle-changes-nothing e = next-stays e idle (λ x q. let z : ◌≡◌ {A = ℕ} 0 1 = cc in omega arith)
 
-next-refused : (gs : Guards) (e : SenderEnd) (n : ℕ) → out_answer (next_by gs e).out ≡ refused n → (next_by gs e).state ≡ e.state
-next-refused gs e n = next-stays gs e (refused n) (λ x q. let z : ◌≡◌ {A = ℕ} 0 1 = cc in omega arith)
+next-refused : (e : SenderEnd) (n : ℕ) → out_answer (next e).out ≡ refused n → (next e).state ≡ e.state
+next-refused e n = next-stays e (refused n) (λ x q. let z : ◌≡◌ {A = ℕ} 0 1 = cc in omega arith)
 
 -- ---- the receiver
 
@@ -182,7 +182,7 @@ valid-first =
       sender_width = λ t l w. rw (l, w);
       receiver_width = λ t _ l w. rw (l, w);
       load = λ l p s area n. ap loads (sent.load-invalid l p s area n);
-      next = λ gs e n. ap sends (sent.next-invalid gs e n);
+      next = λ e n. ap sends (sent.next-invalid e n);
       receive = λ e x n. ap hears (not_valid e x n);
       sender_opens = λ t v. rw (valid-limit (agreed t) v, valid-width (agreed t) v);
       receiver_opens = λ t _ v. rw (valid-limit (agreed t) v, valid-width (agreed t) v);
@@ -194,8 +194,8 @@ areas-then-state =
       load_short = λ l p s area v k. ap loads (sent.load-short l p s area v (lt-ltb _ _ k));
       load_state = λ l p s area v k b. ap loads (sent.load-out-of-bounds l p s area v (le-ltb _ _ k) b);
       load_lane = λ l p s area v k b h. ap loads (holds-a-frame l p s area v k b h);
-      next_short = λ gs e v k. ap sends (sent.next-short gs e v (one-short _ _ _ k));
-      next_state = λ gs e v k m b. ap sends (sent.next-out-of-bounds gs e v (none-short _ _ _ (k, m)) b);
+      next_short = λ e v k. ap sends (sent.next-short e v (one-short _ _ _ k));
+      next_state = λ e v k m b. ap sends (sent.next-out-of-bounds e v (none-short _ _ _ (k, m)) b);
       receive_short = λ e x v k. ap hears (too_short e x v (one-short _ _ _ k));
       receive_state = λ e x v k m b. ap hears (out-of-bounds e x v (none-short _ _ _ (k, m)) b);
     }

@@ -16,12 +16,12 @@ use Rattle.cobs.specs.CodeBlocks.{flag, in_range, code_table, meaning, to_line, 
 use Rattle.cobs.proofs.Tests.{branch, decide}
 use Rattle.link.specs.Agreed.{Settings, agreed, least_packet, largest_frame, most_decoded, valid_width, valid}
 use Rattle.link.specs.Answers.{done, quiet, refused}
-use Rattle.link.specs.Sender.{Lane, low, Sender, Load, opened_sender, lane_state, put_frame, load, step4_break_off, step5_data, step6_code, steps_3_to_6, step2_no_lane, steps_1_to_6, next_by}
+use Rattle.link.specs.Sender.{Lane, low, Sender, Load, opened_sender, lane_state, put_frame, load, step4_break_off, step5_data, step6_code, steps_3_to_6, step2_no_lane, steps_1_to_6, next}
 use Rattle.link.specs.Sender as sender
 use Rattle.link.specs.Demands.{fresh_receiver}
 use Rattle.link.specs.Receiver.{nothing_held, kept_off, reading_off, Receive, opened_receiver, step3_decode, step3_data, step2_by_meaning, step2_code, step1_resume_held, step1_d1, step1_first_octet, steps_1_to_4, step5_without_phantom, step5_flag, at_flag, receive}
 use Rattle.link.specs.Receiver as receiver
-use Rattle.link.specs.Runs.{after_load, after_next_by, run, sender_answers, written, receives, not_quiet, received}
+use Rattle.link.specs.Runs.{after_load, after_next, run, sender_answers, written, receives, not_quiet, received}
 use Rattle.link.specs.Examples.{OtherBitsIgnored, AgreedLengths, PacketLengths, Example, Tells, settings_examples, width_examples, limit_examples, largest_examples, agreeing, area, code_examples, call_examples, sender_bounds, receiver_bounds, empty_examples, frame_examples, held_examples, changed_examples, examples, Examples}
 use Rattle.link.proofs.UnderWay.{lanes}
 use Rattle.link.proofs.Sound.{sound-fresh}
@@ -122,15 +122,15 @@ module _ (t : Settings) (v : valid (agreed t) ≡ true) where
 -- ---- the table
 
 settings-hold : AllHold settings_examples
-unfolding run received sender_answers written receives not_quiet after_load after_next_by agreed valid put_frame load step4_break_off step5_data step6_code steps_3_to_6 step2_no_lane steps_1_to_6 next_by sender.in_bounds step3_decode step3_data step2_by_meaning step2_code step1_resume_held step1_d1 step1_first_octet steps_1_to_4 step5_without_phantom step5_flag at_flag receive receiver.in_bounds in_range code_table meaning to_line from_line leading choice ◌⊕◌ bit_step bit_steps entry octet_step feed register low_first fcs good
+unfolding run received sender_answers written receives not_quiet after_load after_next agreed valid put_frame load step4_break_off step5_data step6_code steps_3_to_6 step2_no_lane steps_1_to_6 next sender.in_bounds step3_decode step3_data step2_by_meaning step2_code step1_resume_held step1_d1 step1_first_octet steps_1_to_4 step5_without_phantom step5_flag at_flag receive receiver.in_bounds in_range code_table meaning to_line from_line leading choice ◌⊕◌ bit_step bit_steps entry octet_step feed register low_first fcs good
 settings-hold = ((refl, refl), ((refl, refl), ((refl, refl), ((refl, refl), (lanes _ refl refl, (lanes _ refl refl, (refl, (refl, (refl, (refl, (refl, (refl, (refl, (refl, (refl, (refl, (refl, (refl, (refl, (refl, (refl, (refl, tt))))))))))))))))))))))
 
 widths-hold : AllHold width_examples
-unfolding run received sender_answers written receives not_quiet after_load after_next_by agreed valid put_frame load step4_break_off step5_data step6_code steps_3_to_6 step2_no_lane steps_1_to_6 next_by sender.in_bounds step3_decode step3_data step2_by_meaning step2_code step1_resume_held step1_d1 step1_first_octet steps_1_to_4 step5_without_phantom step5_flag at_flag receive receiver.in_bounds in_range code_table meaning to_line from_line leading choice ◌⊕◌ bit_step bit_steps entry octet_step feed register low_first fcs good
+unfolding run received sender_answers written receives not_quiet after_load after_next agreed valid put_frame load step4_break_off step5_data step6_code steps_3_to_6 step2_no_lane steps_1_to_6 next sender.in_bounds step3_decode step3_data step2_by_meaning step2_code step1_resume_held step1_d1 step1_first_octet steps_1_to_4 step5_without_phantom step5_flag at_flag receive receiver.in_bounds in_range code_table meaning to_line from_line leading choice ◌⊕◌ bit_step bit_steps entry octet_step feed register low_first fcs good
 widths-hold = (lanes _ refl refl, (lanes _ refl refl, (lanes _ refl refl, (lanes _ refl refl, (refl, (refl, (refl, (refl, (refl, (refl, (most32, (over32, ((refl, refl), ((refl, refl), (refl, (refl, (refl, (refl, (refl, (refl, (refl, (refl, (refl, (refl, ((refl, refl), ((refl, refl), ((refl, refl), ((refl, refl), (refl, (refl, (refl, tt)))))))))))))))))))))))))))))))
 
 limits-hold : AllHold limit_examples
-unfolding run received sender_answers written receives not_quiet after_load after_next_by agreed valid put_frame load step4_break_off step5_data step6_code steps_3_to_6 step2_no_lane steps_1_to_6 next_by sender.in_bounds step3_decode step3_data step2_by_meaning step2_code step1_resume_held step1_d1 step1_first_octet steps_1_to_4 step5_without_phantom step5_flag at_flag receive receiver.in_bounds in_range code_table meaning to_line from_line leading choice ◌⊕◌ bit_step bit_steps entry octet_step feed register low_first fcs good
+unfolding run received sender_answers written receives not_quiet after_load after_next agreed valid put_frame load step4_break_off step5_data step6_code steps_3_to_6 step2_no_lane steps_1_to_6 next sender.in_bounds step3_decode step3_data step2_by_meaning step2_code step1_resume_held step1_d1 step1_first_octet steps_1_to_4 step5_without_phantom step5_flag at_flag receive receiver.in_bounds in_range code_table meaning to_line from_line leading choice ◌⊕◌ bit_step bit_steps entry octet_step feed register low_first fcs good
 limits-hold = ((refl, refl), ((refl, refl), ((refl, refl), ((refl, refl), ((refl, refl), ((refl, refl), ((refl, refl), ((refl, refl), (refl, (refl, (refl, (refl, (refl, (refl, (refl, (refl, (refl, (refl, (lanes _ refl refl, (refl, (refl, (refl, (refl, (refl, (refl, (refl, (refl, (refl, (refl, (refl, (refl, (refl, (refl, (refl, (refl, tt)))))))))))))))))))))))))))))))))))
 
 largest-hold : AllHold largest_examples
@@ -152,35 +152,35 @@ largest-hold =
     )
 
 codes-hold : AllHold code_examples
-unfolding run received sender_answers written receives not_quiet after_load after_next_by agreed valid put_frame load step4_break_off step5_data step6_code steps_3_to_6 step2_no_lane steps_1_to_6 next_by sender.in_bounds step3_decode step3_data step2_by_meaning step2_code step1_resume_held step1_d1 step1_first_octet steps_1_to_4 step5_without_phantom step5_flag at_flag receive receiver.in_bounds in_range code_table meaning to_line from_line leading choice ◌⊕◌ bit_step bit_steps entry octet_step feed register low_first fcs good
+unfolding run received sender_answers written receives not_quiet after_load after_next agreed valid put_frame load step4_break_off step5_data step6_code steps_3_to_6 step2_no_lane steps_1_to_6 next sender.in_bounds step3_decode step3_data step2_by_meaning step2_code step1_resume_held step1_d1 step1_first_octet steps_1_to_4 step5_without_phantom step5_flag at_flag receive receiver.in_bounds in_range code_table meaning to_line from_line leading choice ◌⊕◌ bit_step bit_steps entry octet_step feed register low_first fcs good
 codes-hold = (refl, (refl, (refl, (refl, (refl, (refl, (refl, (refl, (refl, (refl, (refl, (refl, (refl, (refl, (refl, (refl, (refl, (refl, (refl, (refl, (refl, (refl, (refl, (refl, (refl, (refl, (refl, (refl, tt))))))))))))))))))))))))))))
 
 calls-hold : AllHold call_examples
-unfolding run received sender_answers written receives not_quiet after_load after_next_by agreed valid put_frame load step4_break_off step5_data step6_code steps_3_to_6 step2_no_lane steps_1_to_6 next_by sender.in_bounds step3_decode step3_data step2_by_meaning step2_code step1_resume_held step1_d1 step1_first_octet steps_1_to_4 step5_without_phantom step5_flag at_flag receive receiver.in_bounds in_range code_table meaning to_line from_line leading choice ◌⊕◌ bit_step bit_steps entry octet_step feed register low_first fcs good
+unfolding run received sender_answers written receives not_quiet after_load after_next agreed valid put_frame load step4_break_off step5_data step6_code steps_3_to_6 step2_no_lane steps_1_to_6 next sender.in_bounds step3_decode step3_data step2_by_meaning step2_code step1_resume_held step1_d1 step1_first_octet steps_1_to_4 step5_without_phantom step5_flag at_flag receive receiver.in_bounds in_range code_table meaning to_line from_line leading choice ◌⊕◌ bit_step bit_steps entry octet_step feed register low_first fcs good
 calls-hold = (refl, (refl, (refl, (refl, (refl, (refl, (refl, (refl, (refl, (refl, (refl, (refl, (refl, (refl, (refl, (refl, (refl, (refl, (refl, (refl, tt))))))))))))))))))))
 
 sender-bounds : AllHold sender_bounds
-unfolding run received sender_answers written receives not_quiet after_load after_next_by agreed valid put_frame load step4_break_off step5_data step6_code steps_3_to_6 step2_no_lane steps_1_to_6 next_by sender.in_bounds step3_decode step3_data step2_by_meaning step2_code step1_resume_held step1_d1 step1_first_octet steps_1_to_4 step5_without_phantom step5_flag at_flag receive receiver.in_bounds in_range code_table meaning to_line from_line leading choice ◌⊕◌ bit_step bit_steps entry octet_step feed register low_first fcs good
+unfolding run received sender_answers written receives not_quiet after_load after_next agreed valid put_frame load step4_break_off step5_data step6_code steps_3_to_6 step2_no_lane steps_1_to_6 next sender.in_bounds step3_decode step3_data step2_by_meaning step2_code step1_resume_held step1_d1 step1_first_octet steps_1_to_4 step5_without_phantom step5_flag at_flag receive receiver.in_bounds in_range code_table meaning to_line from_line leading choice ◌⊕◌ bit_step bit_steps entry octet_step feed register low_first fcs good
 sender-bounds = (refl, (refl, (refl, (refl, (refl, (refl, (refl, (refl, (refl, (refl, (refl, (refl, (refl, (refl, (refl, (refl, (refl, (refl, (refl, (refl, (refl, (refl, (refl, (refl, (refl, tt)))))))))))))))))))))))))
 
 receiver-bounds : AllHold receiver_bounds
-unfolding run received sender_answers written receives not_quiet after_load after_next_by agreed valid put_frame load step4_break_off step5_data step6_code steps_3_to_6 step2_no_lane steps_1_to_6 next_by sender.in_bounds step3_decode step3_data step2_by_meaning step2_code step1_resume_held step1_d1 step1_first_octet steps_1_to_4 step5_without_phantom step5_flag at_flag receive receiver.in_bounds in_range code_table meaning to_line from_line leading choice ◌⊕◌ bit_step bit_steps entry octet_step feed register low_first fcs good
+unfolding run received sender_answers written receives not_quiet after_load after_next agreed valid put_frame load step4_break_off step5_data step6_code steps_3_to_6 step2_no_lane steps_1_to_6 next sender.in_bounds step3_decode step3_data step2_by_meaning step2_code step1_resume_held step1_d1 step1_first_octet steps_1_to_4 step5_without_phantom step5_flag at_flag receive receiver.in_bounds in_range code_table meaning to_line from_line leading choice ◌⊕◌ bit_step bit_steps entry octet_step feed register low_first fcs good
 receiver-bounds = (refl, (refl, (refl, (refl, (refl, (refl, (refl, (refl, (refl, (refl, (refl, (refl, (refl, (refl, (refl, (refl, (refl, (refl, (refl, (refl, (refl, (refl, (refl, (refl, (refl, (refl, (refl, (refl, (refl, (refl, (refl, (refl, (refl, (refl, (refl, (refl, (refl, (refl, tt))))))))))))))))))))))))))))))))))))))
 
 empty_holds : AllHold empty_examples
-unfolding run received sender_answers written receives not_quiet after_load after_next_by agreed valid put_frame load step4_break_off step5_data step6_code steps_3_to_6 step2_no_lane steps_1_to_6 next_by sender.in_bounds step3_decode step3_data step2_by_meaning step2_code step1_resume_held step1_d1 step1_first_octet steps_1_to_4 step5_without_phantom step5_flag at_flag receive receiver.in_bounds in_range code_table meaning to_line from_line leading choice ◌⊕◌ bit_step bit_steps entry octet_step feed register low_first fcs good
+unfolding run received sender_answers written receives not_quiet after_load after_next agreed valid put_frame load step4_break_off step5_data step6_code steps_3_to_6 step2_no_lane steps_1_to_6 next sender.in_bounds step3_decode step3_data step2_by_meaning step2_code step1_resume_held step1_d1 step1_first_octet steps_1_to_4 step5_without_phantom step5_flag at_flag receive receiver.in_bounds in_range code_table meaning to_line from_line leading choice ◌⊕◌ bit_step bit_steps entry octet_step feed register low_first fcs good
 empty_holds = ((refl, refl), ((refl, refl), ((refl, refl), tt)))
 
 frames-hold : AllHold frame_examples
-unfolding run received sender_answers written receives not_quiet after_load after_next_by agreed valid put_frame load step4_break_off step5_data step6_code steps_3_to_6 step2_no_lane steps_1_to_6 next_by sender.in_bounds step3_decode step3_data step2_by_meaning step2_code step1_resume_held step1_d1 step1_first_octet steps_1_to_4 step5_without_phantom step5_flag at_flag receive receiver.in_bounds in_range code_table meaning to_line from_line leading choice ◌⊕◌ bit_step bit_steps entry octet_step feed register low_first fcs good
+unfolding run received sender_answers written receives not_quiet after_load after_next agreed valid put_frame load step4_break_off step5_data step6_code steps_3_to_6 step2_no_lane steps_1_to_6 next sender.in_bounds step3_decode step3_data step2_by_meaning step2_code step1_resume_held step1_d1 step1_first_octet steps_1_to_4 step5_without_phantom step5_flag at_flag receive receiver.in_bounds in_range code_table meaning to_line from_line leading choice ◌⊕◌ bit_step bit_steps entry octet_step feed register low_first fcs good
 frames-hold = (refl, (refl, (refl, (refl, (many-over, (refl, (refl, (refl, (refl, (refl, (refl, (refl, (refl, ((refl, refl), ((refl, refl), ((refl, refl), ((refl, refl), ((refl, refl), ((refl, refl), ((refl, refl), ((refl, refl), tt)))))))))))))))))))))
 
 held-holds : AllHold held_examples
-unfolding run received sender_answers written receives not_quiet after_load after_next_by agreed valid put_frame load step4_break_off step5_data step6_code steps_3_to_6 step2_no_lane steps_1_to_6 next_by sender.in_bounds step3_decode step3_data step2_by_meaning step2_code step1_resume_held step1_d1 step1_first_octet steps_1_to_4 step5_without_phantom step5_flag at_flag receive receiver.in_bounds in_range code_table meaning to_line from_line leading choice ◌⊕◌ bit_step bit_steps entry octet_step feed register low_first fcs good
+unfolding run received sender_answers written receives not_quiet after_load after_next agreed valid put_frame load step4_break_off step5_data step6_code steps_3_to_6 step2_no_lane steps_1_to_6 next sender.in_bounds step3_decode step3_data step2_by_meaning step2_code step1_resume_held step1_d1 step1_first_octet steps_1_to_4 step5_without_phantom step5_flag at_flag receive receiver.in_bounds in_range code_table meaning to_line from_line leading choice ◌⊕◌ bit_step bit_steps entry octet_step feed register low_first fcs good
 held-holds = (refl, (refl, (refl, (refl, (refl, (refl, (refl, (refl, (refl, (refl, (refl, (refl, (refl, (refl, (refl, (refl, (refl, (refl, (refl, (refl, (refl, (refl, tt))))))))))))))))))))))
 
 changes-hold : AllHold changed_examples
-unfolding run received sender_answers written receives not_quiet after_load after_next_by agreed valid put_frame load step4_break_off step5_data step6_code steps_3_to_6 step2_no_lane steps_1_to_6 next_by sender.in_bounds step3_decode step3_data step2_by_meaning step2_code step1_resume_held step1_d1 step1_first_octet steps_1_to_4 step5_without_phantom step5_flag at_flag receive receiver.in_bounds in_range code_table meaning to_line from_line leading choice ◌⊕◌ bit_step bit_steps entry octet_step feed register low_first fcs good
+unfolding run received sender_answers written receives not_quiet after_load after_next agreed valid put_frame load step4_break_off step5_data step6_code steps_3_to_6 step2_no_lane steps_1_to_6 next sender.in_bounds step3_decode step3_data step2_by_meaning step2_code step1_resume_held step1_d1 step1_first_octet steps_1_to_4 step5_without_phantom step5_flag at_flag receive receiver.in_bounds in_range code_table meaning to_line from_line leading choice ◌⊕◌ bit_step bit_steps entry octet_step feed register low_first fcs good
 changes-hold = (refl, (refl, (refl, (refl, (refl, (refl, (refl, (refl, (refl, (refl, (refl, (refl, (refl, (refl, (refl, (refl, (refl, tt)))))))))))))))))
 
 join : (xs ys : List Example) → AllHold xs → AllHold ys → AllHold (xs ++ ys)

@@ -11,8 +11,8 @@ use Rattle.cobs.specs.CodeBlocks.{flag, to_line, choice}
 use Rattle.cobs.proofs.Exchange.{no_flag, to-other}
 use Rattle.cobs.proofs.Chosen.{code_below}
 use Rattle.link.specs.Agreed.{Settings, Agreed}
-use Rattle.link.specs.Sender.{Lane, low, high, OnLine, no_lane, sending, LaneState, Sender, Out, closes, breaks_off, sends, sends_nothing, refuses, Guards, Step, lane_state, lane_d, next_by, put_frame}
-use Rattle.link.specs.Runs.{Station, Written, writes, written, written_octets, after_load, after_next_by, SenderCall, loading, next_octet_by}
+use Rattle.link.specs.Sender.{Lane, low, high, OnLine, no_lane, sending, LaneState, Sender, Out, closes, breaks_off, sends, sends_nothing, refuses, Step, lane_state, lane_d, next, put_frame}
+use Rattle.link.specs.Runs.{Station, Written, writes, written, written_octets, after_load, after_next, SenderCall, loading, next_octet}
 use Rattle.link.specs.Demands.{frame_began_ff}
 use Rattle.link.proofs.Tests.{true-false}
 use Rattle.link.proofs.Way.{Advance, last, more, covers, opens, Way, ends, cuts, warns, goes, sender, Turn, cut-due, idles, resumes-low, begins-high, begins-low, high-on, low-on, line-free, by_next}
@@ -38,29 +38,29 @@ module _ (b : Bool) (o : OnLine) (g : Agreed) (l : Lane) (s : Sender) (d : List 
   goes_first x pos n z (covers k i) = ((λ _ q. not-FF g.zxe d (lane_state l s).position q), no_flag x)
   goes_first x pos n z (opens k i) = ((λ _ q. not-FF g.zxe d (lane_state l s).position q), no_flag x)
 
-  way-first : {sp : Bool} (st : Step) → Way g sp l s d st → Begins b o st.state.on st.out
+  way-first : (st : Step) → Way g l s d st → Begins b o st.state.on st.out
   way-first st (ends over) = refl
-  way-first st (cuts short e urgent f) = refl
-  way-first st (warns short e urgent f) = ((λ _ q. omega arith), λ q. omega arith)
+  way-first st (cuts short e pre urgent f) = refl
+  way-first st (warns short e pre urgent f) = ((λ _ q. omega arith), λ q. omega arith)
   way-first st (goes x pos n z short v free) = goes_first x pos n z v
 
 module _ (b : Bool) (g : Agreed) (ql qh : LaneState) (n z : ℕ) (t : Settings) (al ah : List ℕ) where
-  turn-first : {gs : Guards} (o : OnLine) (u c : Bool) (st : Step) → Turn g gs ql qh n z t al ah o u c st → bounds.Bounds g (sender ql qh n z o u c t) → (b ≡ true → o ≡ no_lane)
+  turn-first : (o : OnLine) (u c : Bool) (st : Step) → Turn g ql qh n z t al ah o u c st → bounds.Bounds g (sender ql qh n z o u c t) → (b ≡ true → o ≡ no_lane)
       → Begins b o st.state.on st.out
   turn-first o u c st cut-due i h = refl
   turn-first o u c st (idles j k) i h = refl
-  turn-first o u c st (resumes-low j) i h = ((λ _ q. omega arith), λ q. omega arith)
-  turn-first o u c st (begins-high a k w) i h = way-first b no_lane g high _ _ (λ _. i.line.0) st w
+  turn-first o u c st (resumes-low j k) i h = ((λ _ q. omega arith), λ q. omega arith)
+  turn-first o u c st (begins-high k w) i h = way-first b no_lane g high _ _ (λ _. i.line.0) st w
   turn-first o u c st (begins-low j k w) i h = way-first b no_lane g low _ _ (λ _. i.line.0) st w
   turn-first o u c st (high-on w) i h = way-first b (sending high) g high _ _ (λ q. line-free high (h q)) st w
   turn-first o u c st (low-on w) i h = way-first b (sending low) g low _ _ (λ q. line-free low (h q)) st w
 
-next-first : (b : Bool) (g : Agreed) (gs : Guards) (w : Station) → Sound g w → (b ≡ true → w.end.state.on ≡ no_lane)
-    → Begins b w.end.state.on (next_by gs w.end).state.on (next_by gs w.end).out
-next-first b g gs w s h =
+next-first : (b : Bool) (g : Agreed) (w : Station) → Sound g w → (b ≡ true → w.end.state.on ≡ no_lane)
+    → Begins b w.end.state.on (next w.end).state.on (next w.end).out
+next-first b g w s h =
     let e = w.end in
     let r = e.state in
-    by_next g gs e s.agrees (λ (st : Step). Begins b r.on st.state.on st.out) (λ _. refl)
+    by_next g e s.agrees (λ (st : Step). Begins b r.on st.state.on st.out) (λ _. refl)
     (λ st t.
     turn-first b g r.low r.high r.left r.zeros r.settings e.low e.high r.on r.suspended r.cut st t s.in-bounds h)
 
@@ -87,9 +87,9 @@ writes-first b (refuses n) w v es h k f = f b (λ q. k ∙ h q)
 -- b: nothing of a frame was written since the last flag
 pub never-FF : (g : Agreed) (b : Bool) (w : Station) (cs : List SenderCall) → Sound g w → (b ≡ true → w.end.state.on ≡ no_lane)
     → frame_began_ff b (written_octets (written w cs)) ≡ false
-unfolding written after_next_by
+unfolding written after_next
 never-FF g b w [] s h = refl
 never-FF g b w (loading l p ∷ cs) s h = never-FF g b (after_load l p w) cs (sound-load g l p w s) (λ q. load-on g l p w s ∙ h q)
-never-FF g b w (next_octet_by gs ∷ cs) s h =
-    writes-first b (next_by gs w.end).out w (after_next_by gs w) (written (after_next_by gs w) cs) h (next-first b g gs w s h)
-    (λ c k. never-FF g c (after_next_by gs w) cs (sound-next g gs w s) k)
+never-FF g b w (next_octet ∷ cs) s h =
+    writes-first b (next w.end).out w (after_next w) (written (after_next w) cs) h (next-first b g w s h)
+    (λ c k. never-FF g c (after_next w) cs (sound-next g w s) k)

@@ -11,10 +11,10 @@ use lib.ListN.{length}
 use Rattle.cobs.proofs.Tests.{branch, decide}
 use Rattle.link.specs.Agreed.{Settings, Agreed, agreed, valid, least_packet, largest_frame, most_decoded}
 use Rattle.link.specs.Answers.{refused}
-use Rattle.link.specs.Sender.{Lane, low, high, OnLine, LaneState, Sender, SenderEnd, Guards, Step, Load, out_answer, lane_area, lane_state, loaded, next_by, next, put_frame, load, in_bounds}
+use Rattle.link.specs.Sender.{Lane, low, high, OnLine, LaneState, Sender, SenderEnd, Step, Load, out_answer, lane_area, lane_state, loaded, next, put_frame, load, in_bounds}
 use Rattle.link.specs.Receiver.{PlainReading, reading_off, reading_on, ReceiverEnd, Receive, receive}
 use Rattle.link.specs.Receiver as receiver
-use Rattle.link.specs.Runs.{SenderCall, loading, next_octet_by, Station, fresh_station, sender_answers, after_load, after_next_by, receives}
+use Rattle.link.specs.Runs.{SenderCall, loading, next_octet, Station, fresh_station, sender_answers, after_load, after_next, receives}
 use Rattle.link.specs.Demands.{KeepBounds, NeverOutOfBounds, fresh_receiver}
 use Rattle.link.proofs.Tests.{not-below}
 use Rattle.link.proofs.Way.{Way, ends, cuts, warns, goes, Turn, cut-due, idles, resumes-low, begins-high, begins-low, high-on, low-on, turn}
@@ -61,34 +61,34 @@ fresh-3 t (reading_on map) v a b xs = never-3 xs _ v (heard.in_bounds_lem _ _ re
 -- ---- the sender
 
 -- no step refuses
-way-3 : {sp : Bool} (g : Agreed) (l : Lane) (s : Sender) (d : List ℕ) (st : Step) → Way g sp l s d st → out_answer st.out ≡ refused 3 → ⊥
+way-3 : (g : Agreed) (l : Lane) (s : Sender) (d : List ℕ) (st : Step) → Way g l s d st → out_answer st.out ≡ refused 3 → ⊥
 way-3 g l s d st (ends over) q = let n : ◌≡◌ {A = ℕ} 0 1 = cc in omega arith
-way-3 g l s d st (cuts short e urgent f) q = let n : ◌≡◌ {A = ℕ} 0 1 = cc in omega arith
-way-3 g l s d st (warns short e urgent f) q = let n : ◌≡◌ {A = ℕ} 0 1 = cc in omega arith
+way-3 g l s d st (cuts short e pre urgent f) q = let n : ◌≡◌ {A = ℕ} 0 1 = cc in omega arith
+way-3 g l s d st (warns short e pre urgent f) q = let n : ◌≡◌ {A = ℕ} 0 1 = cc in omega arith
 way-3 g l s d st (goes x pos n z short v free) q = let n : ◌≡◌ {A = ℕ} 0 1 = cc in omega arith
 
-turn-3 : {gs : Guards} (g : Agreed) (ql qh : LaneState) (n z : ℕ) (t : Settings) (al ah : List ℕ) (o : OnLine) (u c : Bool) (st : Step) → Turn g gs ql qh n z t al ah o u c st
+turn-3 : (g : Agreed) (ql qh : LaneState) (n z : ℕ) (t : Settings) (al ah : List ℕ) (o : OnLine) (u c : Bool) (st : Step) → Turn g ql qh n z t al ah o u c st
     → out_answer st.out ≡ refused 3 → ⊥
 turn-3 g ql qh n z t al ah o u c st cut-due q = let i : ◌≡◌ {A = ℕ} 0 1 = cc in omega arith
 turn-3 g ql qh n z t al ah o u c st (idles h k) q = let i : ◌≡◌ {A = ℕ} 0 1 = cc in omega arith
-turn-3 g ql qh n z t al ah o u c st (resumes-low k) q = let i : ◌≡◌ {A = ℕ} 0 1 = cc in omega arith
-turn-3 g ql qh n z t al ah o u c st (begins-high a h w) q = way-3 g high _ _ st w q
+turn-3 g ql qh n z t al ah o u c st (resumes-low k h) q = let i : ◌≡◌ {A = ℕ} 0 1 = cc in omega arith
+turn-3 g ql qh n z t al ah o u c st (begins-high h w) q = way-3 g high _ _ st w q
 turn-3 g ql qh n z t al ah o u c st (begins-low k h w) q = way-3 g low _ _ st w q
 turn-3 g ql qh n z t al ah o u c st (high-on w) q = way-3 g high _ _ st w q
 turn-3 g ql qh n z t al ah o u c st (low-on w) q = way-3 g low _ _ st w q
 
-next-3 : (g : Agreed) → valid g ≡ true → (gs : Guards) (e : SenderEnd) → agreed e.state.settings ≡ g → in_bounds g e.state ≡ true → out_answer (next_by gs e).out ≡ refused 3 → ⊥
-unfolding next_by
-next-3 g v gs e ag b =
+next-3 : (g : Agreed) → valid g ≡ true → (e : SenderEnd) → agreed e.state.settings ≡ g → in_bounds g e.state ≡ true → out_answer (next e).out ≡ refused 3 → ⊥
+unfolding next
+next-3 g v e ag b =
     rw (ag, v, b)
     (branch (λ (st : Step). out_answer st.out ≡ refused 3 → ⊥) (ltb (length e.low) (largest_frame g) || ltb (length e.high) (largest_frame g))
     (λ _ q. let n : ◌≡◌ {A = ℕ} 2 3 = cc in omega arith)
     (λ _.
     let s = e.state in
     turn-3 g s.low s.high s.left s.zeros s.settings e.low e.high s.on s.suspended s.cut _
-    (turn g gs s.low s.high s.left s.zeros s.settings e.low e.high s.on s.suspended s.cut)))
+    (turn g s.low s.high s.left s.zeros s.settings e.low e.high s.on s.suspended s.cut)))
 
-pub load-3 : (g : Agreed) → valid g ≡ true → (l : Lane) (p : List ℕ) (s : Sender) (a : List ℕ) → agreed s.settings ≡ g → in_bounds g s ≡ true
+load-3 : (g : Agreed) → valid g ≡ true → (l : Lane) (p : List ℕ) (s : Sender) (a : List ℕ) → agreed s.settings ≡ g → in_bounds g s ≡ true
     → (load l p s a).answer ≡ refused 3 → ⊥
 unfolding load put_frame
 load-3 g v l p s a ag b =
@@ -105,9 +105,9 @@ sender-3 g v w [] s m = Memᴰ.not-nil m
 sender-3 g v w (loading l p ∷ cs) s m =
     ⊎_elim (λ q. load-3 g v l p w.end.state (lane_area l w.end) s.agrees (sent.in_bounds_lem g w.end.state s.in-bounds) (sym q))
     (sender-3 g v (after_load l p w) cs (sound-load g l p w s)) (Memᴰ.cases_cons m)
-sender-3 g v w (next_octet_by gs ∷ cs) s m =
-    ⊎_elim (λ q. next-3 g v gs w.end s.agrees (sent.in_bounds_lem g w.end.state s.in-bounds) (sym q))
-    (sender-3 g v (after_next_by gs w) cs (sound-next g gs w s)) (Memᴰ.cases_cons m)
+sender-3 g v w (next_octet ∷ cs) s m =
+    ⊎_elim (λ q. next-3 g v w.end s.agrees (sent.in_bounds_lem g w.end.state s.in-bounds) (sym q))
+    (sender-3 g v (after_next w) cs (sound-next g w s)) (Memᴰ.cases_cons m)
 
 -- ---- the theorems
 
@@ -119,8 +119,8 @@ keep-bounds =
     record {
       load = λ l p s a b. kept_in s.settings _ (sent.load-keeps (agreed s.settings) l p s a refl (sent.bounds (agreed s.settings) s b));
       next =
-          λ gs e b.
-          kept_in e.state.settings _ (sent.next-keeps (agreed e.state.settings) gs e refl (sent.bounds (agreed e.state.settings) e.state b));
+          λ e b.
+          kept_in e.state.settings _ (sent.next-keeps (agreed e.state.settings) e refl (sent.bounds (agreed e.state.settings) e.state b));
       receive = keeps;
     }
 

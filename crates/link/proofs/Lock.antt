@@ -12,9 +12,9 @@ use Rattle.cobs.proofs.Exchange.{no_flag, from-line, turned-back}
 use Rattle.cobs.proofs.Table.{numbers}
 use Rattle.link.specs.Agreed.{Settings, Agreed, largest_frame, most_decoded}
 use Rattle.link.specs.Answers.{Answer, held, refused}
-use Rattle.link.specs.Sender.{Lane, low, high, OnLine, no_lane, sending, LaneState, Out, closes, breaks_off, sends, sends_nothing, refuses, Guards, Step, lane_d, loaded, next_by, next, put_frame}
+use Rattle.link.specs.Sender.{Lane, low, high, OnLine, no_lane, sending, LaneState, Out, closes, breaks_off, sends, sends_nothing, refuses, Step, lane_d, loaded, next, put_frame}
 use Rattle.link.specs.Receiver.{Fragment, nothing_held, Working, ReceiverEnd, Receive, is_held, work, aside, put_back, steps_1_to_4}
-use Rattle.link.specs.Runs.{Lanes, Station, lane_packet, after_load, after_step, after_next_by, Written, ends_its_frame, aside_after, replaces_after, Arrives, ExpectedReport}
+use Rattle.link.specs.Runs.{Lanes, Station, lane_packet, after_load, after_step, after_next, Written, ends_its_frame, aside_after, replaces_after, Arrives, ExpectedReport}
 use Rattle.link.proofs.Cobs.{cobs_receive}
 use Rattle.link.proofs.Tests.{true-false, false-true}
 use Rattle.link.proofs.Way.{Advance, last, more, covers, opens, Way, ends, cuts, warns, goes, sender, Turn, cut-due, idles, resumes-low, begins-high, begins-low, high-on, low-on, by_next}
@@ -255,9 +255,9 @@ all-covered q a n z e h r fo =
 
 module _ (g : Agreed) (law : check.Sound g.check) (m : Option (List ℕ)) (ql qh : LaneState) (n z : ℕ) (t : Settings) (al ah : List ℕ) (bl bh : Option (List ℕ)) (e : ReceiverEnd) where
   -- steps 3 to 6 of the high lane
-  lock-high : {sp : Bool} (u b s : Bool) → (let v = sender ql qh n z (sending high) u false t in
+  lock-high : (u b s : Bool) → (let v = sender ql qh n z (sending high) u false t in
       let w = station v al ah bl bh in
-      Sound g w → Lock g m b s w e → (st : Step) → Way g sp high v (lane_d qh ah) st → Leads g m b s st.out w.lanes ql.position (after_step w st) e)
+      Sound g w → Lock g m b s w e → (st : Step) → Way g high v (lane_d qh ah) st → Leads g m b s st.out w.lanes ql.position (after_step w st) e)
   lock-high u b s i k st (ends over) =
       let room = i.in-bounds.line.0 in
       let fo = all-covered qh ah n z e over room k.along.0 in
@@ -273,8 +273,8 @@ module _ (g : Agreed) (law : check.Sound g.check) (m : Option (List ℕ)) (ql qh
           );
         },
       )
-  lock-high u b s i k st (cuts short is urgent f) = bounds.low-high is
-  lock-high u b s i k st (warns short is urgent f) = bounds.low-high is
+  lock-high u b s i k st (cuts short is pre urgent f) = bounds.low-high is
+  lock-high u b s i k st (warns short is pre urgent f) = bounds.low-high is
   lock-high u b s i k st (goes x pos n' z' short v free) =
       let c = i.in-bounds in
       let h =
@@ -315,9 +315,9 @@ module _ (g : Agreed) (law : check.Sound g.check) (m : Option (List ℕ)) (ql qh
       )
 
   -- of the low lane, a packet begun after the chosen flag,
-  lock-low : {sp : Bool} (s : Bool) → (let v = sender ql qh n z (sending low) false false t in
+  lock-low : (s : Bool) → (let v = sender ql qh n z (sending low) false false t in
       let w = station v al ah bl bh in
-      Sound g w → Lock g m false s w e → (st : Step) → Way g sp low v (lane_d ql al) st → Leads g m false s st.out w.lanes ql.position (after_step w st) e)
+      Sound g w → Lock g m false s w e → (st : Step) → Way g low v (lane_d ql al) st → Leads g m false s st.out w.lanes ql.position (after_step w st) e)
   lock-low s i k st (ends over) =
       let room = i.in-bounds.line.0 in
       let fo = all-covered ql al n z e over room k.along.0 in
@@ -329,8 +329,8 @@ module _ (g : Agreed) (law : check.Sound g.check) (m : Option (List ℕ)) (ql qh
           along = (end.out, (refl, closed-held g law ql al e k.ready bl s i.stock-low room.loaded fo k.along.1));
         },
       )
-  lock-low s i k st (cuts short is urgent left) = breaks s n z 0 0 k.ready k.along.0 k.along.1 left urgent.1
-  lock-low s i k st (warns short is urgent f) =
+  lock-low s i k st (cuts short is pre urgent left) = breaks s n z 0 0 k.ready k.along.0 k.along.1 left pre
+  lock-low s i k st (warns short is pre urgent f) =
       let c = i.in-bounds in
       let h =
       heard-two g ql al n z (stock-fits g ql al bl i.stock-low) (c.low.size (λ q. omega (arith, c.line.0.loaded))).1
@@ -356,9 +356,9 @@ module _ (g : Agreed) (law : check.Sound g.check) (m : Option (List ℕ)) (ql qh
       )
 
   -- and one under way at it
-  lock-aside : {sp : Bool} (s : Bool) → (let v = sender ql qh n z (sending low) false false t in
+  lock-aside : (s : Bool) → (let v = sender ql qh n z (sending low) false false t in
       let w = station v al ah bl bh in
-      Sound g w → Lock g m true s w e → (st : Step) → Way g sp low v (lane_d ql al) st → Leads g m true s st.out w.lanes ql.position (after_step w st) e)
+      Sound g w → Lock g m true s w e → (st : Step) → Way g low v (lane_d ql al) st → Leads g m true s st.out w.lanes ql.position (after_step w st) e)
   lock-aside s i k st (ends over) =
       let end = flag-ends g e k.ready in
       let none-left : n ≡ 0 = omega (arith, over, i.in-bounds.line.0.room) in (
@@ -378,8 +378,8 @@ module _ (g : Agreed) (law : check.Sound g.check) (m : Option (List ℕ)) (ql qh
           );
         },
       )
-  lock-aside s i k st (cuts short is urgent left) = breaks-aside s 0 0 k.ready (k.whose refl) k.along.0
-  lock-aside s i k st (warns short is urgent f) = (
+  lock-aside s i k st (cuts short is pre urgent left) = breaks-aside s 0 0 k.ready (k.whose refl) k.along.0
+  lock-aside s i k st (warns short is pre urgent f) = (
     quiet-send g low 0x02 bl m true s ql.position e k.ready (λ q. omega arith),
     record { ready = (other-passes g e 0x02 (λ q. omega arith) k.ready).ready; whose = k.whose; along = k.along.0 },
   )
@@ -425,7 +425,7 @@ module _ (g : Agreed) (law : check.Sound g.check) (m : Option (List ℕ)) (ql qh
   resumed-low true s i k = (k.along.1, in-step-at 0 n _ (sym i.in-bounds.line.0) (D1-steps k.ready k.along.0))
 
   -- whichever step applies
-  lock-turn : {gs : Guards} (o : OnLine) (u c b s : Bool) (st : Step) → Turn g gs ql qh n z t al ah o u c st → (let w = station (sender ql qh n z o u c t) al ah bl bh in
+  lock-turn : (o : OnLine) (u c b s : Bool) (st : Step) → Turn g ql qh n z t al ah o u c st → (let w = station (sender ql qh n z o u c t) al ah bl bh in
       Sound g w → Lock g m b s w e → Leads g m b s st.out w.lanes ql.position (after_step w st) e)
   lock-turn no_lane u c b s st cut-due i k = true-false i.in-bounds.line.2
   lock-turn (sending high) u c b s st cut-due i k = true-false i.in-bounds.line.1
@@ -434,11 +434,11 @@ module _ (g : Agreed) (law : check.Sound g.check) (m : Option (List ℕ)) (ql qh
       breaks s 1 1 n z k.ready k.along.0 k.along.1 (omega arith) wait.pre
   lock-turn (sending low) u c true s st cut-due i k = breaks-aside s n z k.ready (k.whose refl) k.along
   lock-turn o u c b s st (idles f h) i k = k
-  lock-turn o u c b s st (resumes-low f) i k = (
+  lock-turn o u c b s st (resumes-low f h) i k = (
     quiet-send g low 0xD1 bl m b s ql.position e k.ready (λ q. omega arith),
     record { ready = (other-passes g e 0xD1 (λ q. omega arith) k.ready).ready; whose = k.whose; along = resumed-low b s i k },
   )
-  lock-turn o u c b s st (begins-high a h w) i k =
+  lock-turn o u c b s st (begins-high h w) i k =
       let c = i.in-bounds in
       let fo = begins qh ah (stock-fits g qh ah bh i.stock-high) i.line.0 c.line.0 c.line.1 k.ready k.along.0 in
       lock-high u b s (enter-high g ql qh n z t al ah bl bh u h i) (record { ready = k.ready; whose = k.whose; along = (fo, k.along.1) }) st w
@@ -455,13 +455,13 @@ module _ (g : Agreed) (law : check.Sound g.check) (m : Option (List ℕ)) (ql qh
 
 -- ---- the calls
 
-pub lock-next : (g : Agreed) (gs : Guards) (law : check.Sound g.check) (m : Option (List ℕ)) (b s : Bool) (w : Station) (e : ReceiverEnd) → Sound g w → Lock g m b s w e
-    → Leads g m b s (next_by gs w.end).out w.lanes w.end.state.low.position (after_next_by gs w) e
-unfolding after_next_by
-lock-next g gs law m b s w e i k =
+pub lock-next : (g : Agreed) (law : check.Sound g.check) (m : Option (List ℕ)) (b s : Bool) (w : Station) (e : ReceiverEnd) → Sound g w → Lock g m b s w e
+    → Leads g m b s (next w.end).out w.lanes w.end.state.low.position (after_next w) e
+unfolding after_next
+lock-next g law m b s w e i k =
     let d = w.end in
     let r = d.state in
-    by_next g gs d i.agrees (λ st. Leads g m b s st.out w.lanes r.low.position (after_step w st) e) (λ _. k)
+    by_next g d i.agrees (λ st. Leads g m b s st.out w.lanes r.low.position (after_step w st) e) (λ _. k)
     (λ st v.
     lock-turn g law m r.low r.high r.left r.zeros r.settings d.low d.high w.lanes.low w.lanes.high e
     r.on r.suspended r.cut b s st v i k)

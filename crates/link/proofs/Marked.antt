@@ -18,12 +18,12 @@ use Rattle.cobs.proofs.Exchange.{from-line}
 use Rattle.cobs.proofs.Table.{run_row, row_read}
 use Rattle.link.specs.Agreed.{Agreed, agreed, least_frame, most_decoded, Settings, valid}
 use Rattle.link.specs.Answers.{refused}
-use Rattle.link.specs.Sender.{put_frame, load, step4_break_off, step5_data, step6_code, steps_3_to_6, step2_no_lane, steps_1_to_6, next_by}
+use Rattle.link.specs.Sender.{put_frame, load, step4_break_off, step5_data, step6_code, steps_3_to_6, step2_no_lane, steps_1_to_6, next}
 use Rattle.link.specs.Sender as sender
 use Rattle.link.specs.Receiver.{reading_off, Working, ReceiverEnd, Receive, Ended, is_no_block, is_d0, step3_decode, step3_data, step2_by_meaning, step2_code, step1_resume_held, step1_d1, step1_first_octet, steps_1_to_4, step5_without_phantom, step5_flag, at_flag, work, aside, put_back, flagged, receive}
 use Rattle.link.specs.Receiver as receiver
 use Rattle.link.specs.ReceiverParts.{ReceiverReady}
-use Rattle.link.specs.Runs.{after_load, after_next_by, run, written, receives, not_quiet, received, under_way, left_aside}
+use Rattle.link.specs.Runs.{after_load, after_next, run, written, receives, not_quiet, received, under_way, left_aside}
 use Rattle.link.specs.Demands.{fresh_receiver}
 use Rattle.link.specs.Marked.{bits16, Case, refused_ten, Says, receiver_area, cases, MarkedCases, AtWork, fresh_end}
 use Rattle.link.specs.Examples.{agreeing, bits32}
@@ -44,7 +44,7 @@ AllHold (c ∷ cs) = Says c × AllHold cs
 -- ---- (a) to (g) and (i): computed
 
 a-to-g : AllHold (take 7 cases)
-unfolding written receives not_quiet after_load after_next_by agreed valid put_frame load step4_break_off step5_data step6_code steps_3_to_6 step2_no_lane steps_1_to_6 next_by sender.in_bounds step3_decode step3_data step2_by_meaning step2_code step1_resume_held step1_d1 step1_first_octet steps_1_to_4 step5_without_phantom step5_flag at_flag receive receiver.in_bounds in_range code_table meaning to_line from_line leading choice ◌⊕◌ bit_step bit_steps entry octet_step feed register low_first fcs good
+unfolding written receives not_quiet after_load after_next agreed valid put_frame load step4_break_off step5_data step6_code steps_3_to_6 step2_no_lane steps_1_to_6 next sender.in_bounds step3_decode step3_data step2_by_meaning step2_code step1_resume_held step1_d1 step1_first_octet steps_1_to_4 step5_without_phantom step5_flag at_flag receive receiver.in_bounds in_range code_table meaning to_line from_line leading choice ◌⊕◌ bit_step bit_steps entry octet_step feed register low_first fcs good
 a-to-g = (lanes _ refl refl, (lanes _ refl refl, (lanes _ refl refl, (lanes _ refl refl, (refl, (refl, (refl, tt)))))))
 
 i : AllHold (drop 9 cases)
@@ -227,5 +227,5 @@ marked = each cases all
 -- ---- demand 3 at work
 
 pub at-work : AtWork
-unfolding run received under_way left_aside written receives not_quiet after_load after_next_by agreed valid put_frame load step4_break_off step5_data step6_code steps_3_to_6 step2_no_lane steps_1_to_6 next_by sender.in_bounds step3_decode step3_data step2_by_meaning step2_code step1_resume_held step1_d1 step1_first_octet steps_1_to_4 step5_without_phantom step5_flag at_flag receive receiver.in_bounds in_range code_table meaning to_line from_line leading choice ◌⊕◌ bit_step bit_steps entry octet_step feed register low_first fcs good
+unfolding run received under_way left_aside written receives not_quiet after_load after_next agreed valid put_frame load step4_break_off step5_data step6_code steps_3_to_6 step2_no_lane steps_1_to_6 next sender.in_bounds step3_decode step3_data step2_by_meaning step2_code step1_resume_held step1_d1 step1_first_octet steps_1_to_4 step5_without_phantom step5_flag at_flag receive receiver.in_bounds in_range code_table meaning to_line from_line leading choice ◌⊕◌ bit_step bit_steps entry octet_step feed register low_first fcs good
 at-work = record { premise = refl; under_way = refl; line = refl; through = refl; aside = refl }

@@ -13,9 +13,9 @@ use Rattle.cobs.proofs.Tests.{branch, decide, and_right}
 use Rattle.cobs.proofs.Frame.{longest, longest-frame, longest-part, block-cost}
 use Rattle.link.specs.Agreed.{Settings, Agreed, agreed, largest_frame}
 use Rattle.link.specs.Answers.{idle, octet}
-use Rattle.link.specs.Sender.{Lane, low, high, OnLine, no_lane, sending, LaneState, Sender, SenderEnd, Guards, Step, out_answer, loaded, lane_area, lane_d, steps_1_to_6, next_by, next, put_frame, no_guards}
+use Rattle.link.specs.Sender.{Lane, low, high, OnLine, no_lane, sending, LaneState, Sender, SenderEnd, Step, out_answer, loaded, lane_area, lane_d, steps_1_to_6, next, put_frame}
 use Rattle.link.specs.SenderParts.{SenderReady}
-use Rattle.link.specs.Runs.{Station, SenderCall, loading, next_octet_by, next_octet, loaded_by, after_load, after_next_by, after_next, run}
+use Rattle.link.specs.Runs.{Station, SenderCall, loading, next_octet, loaded_by, after_load, after_next, run}
 use Rattle.link.specs.Progress.{BothEmpty, IdleIfEmpty, calls_for, Emptied}
 use Rattle.link.proofs.Tests.{true-false}
 use Rattle.link.proofs.Way.{Advance, last, more, covers, opens, Way, ends, cuts, warns, goes, sender, Turn, cut-due, idles, resumes-low, begins-high, begins-low, high-on, low-on, turn}
@@ -27,46 +27,46 @@ use Rattle.link.proofs.Sound.{by-load}
 
 -- the next step of a sender in bounds with areas long enough is one of those in Way.antt
 pub record Unrefused (e : SenderEnd) : Type 0 where
-  pub is : (gs : Guards) → next_by gs e ≡ steps_1_to_6 (agreed e.state.settings) gs e e.state.cut e.state.on
+  pub is : next e ≡ steps_1_to_6 (agreed e.state.settings) e e.state.cut e.state.on
   pub bounds : bounds.Bounds (agreed e.state.settings) e.state
   pub low : e.state.low.length ≤ length e.low
   pub high : e.state.high.length ≤ length e.high
 
 pub unrefused : (e : SenderEnd) → SenderReady e → Unrefused e
-unfolding next_by
+unfolding next
 unrefused e r =
     let g = agreed e.state.settings in
     let b = bounds.bounds g e.state r.bounds in
     record {
-      is = λ gs. rw (r.valid, le-ltb (length e.low) (largest_frame g) r.low, le-ltb (length e.high) (largest_frame g) r.high, r.bounds);
+      is = rw (r.valid, le-ltb (length e.low) (largest_frame g) r.low, le-ltb (length e.high) (largest_frame g) r.high, r.bounds);
       bounds = b;
       low = bounds.fits-area g e.state.low e.low b.low r.low;
       high = bounds.fits-area g e.state.high e.high b.high r.high;
     }
 
 -- what holds of every such step holds of the call
-pub by_turn : (gs : Guards) (e : SenderEnd) → SenderReady e → (P : Step → Type 0)
+pub by_turn : (e : SenderEnd) → SenderReady e → (P : Step → Type 0)
     → (let s = e.state in
-    ((st : Step) → Turn (agreed s.settings) gs s.low s.high s.left s.zeros s.settings e.low e.high s.on s.suspended s.cut st → P st))
-    → P (next_by gs e)
-by_turn gs e r P f =
+    ((st : Step) → Turn (agreed s.settings) s.low s.high s.left s.zeros s.settings e.low e.high s.on s.suspended s.cut st → P st))
+    → P (next e)
+by_turn e r P f =
     let s = e.state in
-    rw ((unrefused e r).is gs)
-    (f _ (turn (agreed s.settings) gs s.low s.high s.left s.zeros s.settings e.low e.high s.on s.suspended s.cut))
+    rw (unrefused e r).is
+    (f _ (turn (agreed s.settings) s.low s.high s.left s.zeros s.settings e.low e.high s.on s.suspended s.cut))
 
 -- the sender after it
-pub ready_on : (gs : Guards) (w : Station) → SenderReady w.end → SenderReady (after_next_by gs w).end
-unfolding after_next_by
-ready_on gs w r =
+pub ready_on : (w : Station) → SenderReady w.end → SenderReady (after_next w).end
+unfolding after_next
+ready_on w r =
     let e = w.end in
     let g = agreed e.state.settings in
-    let k = bounds.next-keeps g gs e refl (unrefused e r).bounds in
-    let same : agreed (next_by gs e).state.settings ≡ g = ap agreed k.settings in
+    let k = bounds.next-keeps g e refl (unrefused e r).bounds in
+    let same : agreed (next e).state.settings ≡ g = ap agreed k.settings in
     record {
       valid = rw same r.valid;
       low = rw same r.low;
       high = rw same r.high;
-      bounds = rw same (bounds.in_bounds_lem g (next_by gs e).state k.bounds);
+      bounds = rw same (bounds.in_bounds_lem g (next e).state k.bounds);
     }
 
 -- and after a load
@@ -102,37 +102,37 @@ pub ready-run : (w : Station) (cs : List SenderCall) → SenderReady w.end → S
 unfolding run
 ready-run w [] r = r
 ready-run w (loading l p ∷ cs) r = ready-run (after_load l p w) cs (by-load _ l p w (λ v. SenderReady v.end) refl r (ready-put w r l p))
-ready-run w (next_octet_by gs ∷ cs) r = ready-run (after_next_by gs w) cs (ready_on gs w r)
+ready-run w (next_octet ∷ cs) r = ready-run (after_next w) cs (ready_on w r)
 
 -- ---- never idle with work to do
 
 not-idle : {Q : Type 0} (x : ℕ) → octet x ≡ idle → Q
 not-idle x q = absurd (let z : ◌≡◌ {A = ℕ} 0 1 = cc in omega arith)
 
-way-idle : {sp : Bool} {Q : Type 0} (g : Agreed) (l : Lane) (s : Sender) (d : List ℕ) (st : Step) → Way g sp l s d st → out_answer st.out ≡ idle → Q
+way-idle : {Q : Type 0} (g : Agreed) (l : Lane) (s : Sender) (d : List ℕ) (st : Step) → Way g l s d st → out_answer st.out ≡ idle → Q
 way-idle g l s d st (ends over) q = not-idle _ q
-way-idle g l s d st (cuts short e urgent f) q = not-idle _ q
-way-idle g l s d st (warns short e urgent f) q = not-idle _ q
+way-idle g l s d st (cuts short e pre urgent f) q = not-idle _ q
+way-idle g l s d st (warns short e pre urgent f) q = not-idle _ q
 way-idle g l s d st (goes x pos n z short v free) q = not-idle _ q
 
 module _ (g : Agreed) (ql qh : LaneState) (n z : ℕ) (t : Settings) (al ah : List ℕ) where
-  turn-idle : {gs : Guards} (o : OnLine) (u c : Bool) (st : Step) → Turn g gs ql qh n z t al ah o u c st → out_answer st.out ≡ idle → (ql.length ≡ 0) × (qh.length ≡ 0)
+  turn-idle : (o : OnLine) (u c : Bool) (st : Step) → Turn g ql qh n z t al ah o u c st → out_answer st.out ≡ idle → (ql.length ≡ 0) × (qh.length ≡ 0)
   turn-idle o u c st cut-due q = not-idle _ q
   turn-idle o u c st (idles h k) q = (k, h)
-  turn-idle o u c st (resumes-low k) q = not-idle _ q
-  turn-idle o u c st (begins-high a h w) q = way-idle g high _ _ st w q
+  turn-idle o u c st (resumes-low k h) q = not-idle _ q
+  turn-idle o u c st (begins-high h w) q = way-idle g high _ _ st w q
   turn-idle o u c st (begins-low k h w) q = way-idle g low _ _ st w q
   turn-idle o u c st (high-on w) q = way-idle g high _ _ st w q
   turn-idle o u c st (low-on w) q = way-idle g low _ _ st w q
 
-  turn-empty : {gs : Guards} (o : OnLine) (u c : Bool) (st : Step) → Turn g gs ql qh n z t al ah o u c st → bounds.Bounds g (sender ql qh n z o u c t)
+  turn-empty : (o : OnLine) (u c : Bool) (st : Step) → Turn g ql qh n z t al ah o u c st → bounds.Bounds g (sender ql qh n z o u c t)
       → ql.length ≡ 0 → qh.length ≡ 0 → out_answer st.out ≡ idle
   turn-empty no_lane u c st cut-due b i j = true-false b.line.2
   turn-empty (sending high) u c st cut-due b i j = true-false b.line.1
   turn-empty (sending low) u c st cut-due b i j = absurd (omega (arith, b.line.0.loaded))
   turn-empty o u c st (idles h k) b i j = refl
-  turn-empty o u c st (resumes-low k) b i j = absurd (omega (arith, b.waits refl))
-  turn-empty o u c st (begins-high a h w) b i j = absurd (omega arith)
+  turn-empty o u c st (resumes-low k h) b i j = absurd (omega arith)
+  turn-empty o u c st (begins-high h w) b i j = absurd (omega arith)
   turn-empty o u c st (begins-low k h w) b i j = absurd (omega arith)
   turn-empty o u c st (high-on w) b i j = absurd (omega (arith, b.line.0.loaded))
   turn-empty o u c st (low-on w) b i j = absurd (omega (arith, b.line.0.loaded))
@@ -141,12 +141,12 @@ pub idle-if-empty : IdleIfEmpty
 idle-if-empty =
     record {
       only =
-          λ gs e r.
-          by_turn gs e r (λ st. out_answer st.out ≡ idle → BothEmpty e.state)
+          λ e r.
+          by_turn e r (λ st. out_answer st.out ≡ idle → BothEmpty e.state)
           (λ st h q. let k = turn-idle _ _ _ _ _ _ _ _ _ _ _ st h q in record { low = k.0; high = k.1 });
       always =
-          λ gs e r k.
-          by_turn gs e r (λ st. out_answer st.out ≡ idle) (λ st h. turn-empty _ _ _ _ _ _ _ _ _ _ _ st h (unrefused e r).bounds k.low k.high);
+          λ e r k.
+          by_turn e r (λ st. out_answer st.out ≡ idle) (λ st h. turn-empty _ _ _ _ _ _ _ _ _ _ _ st h (unrefused e r).bounds k.low k.high);
     }
 
 -- ---- both lanes get empty
@@ -248,12 +248,12 @@ or-true false = refl
 
 module _ (g : Agreed) (ql qh : LaneState) (n z : ℕ) (t : Settings) (al ah : List ℕ) where
   -- steps 3 to 6 leave less to send
-  high-less : {sp : Bool} (u : Bool) → qh.length ≤ length ah → bounds.Bounds g (sender ql qh n z (sending high) u false t) → (st : Step)
-      → Way g sp high (sender ql qh n z (sending high) u false t) (lane_d qh ah) st → due_in g st.state < rest qh.length qh.position n z + 1 + owed ql + one u
+  high-less : (u : Bool) → qh.length ≤ length ah → bounds.Bounds g (sender ql qh n z (sending high) u false t) → (st : Step)
+      → Way g high (sender ql qh n z (sending high) u false t) (lane_d qh ah) st → due_in g st.state < rest qh.length qh.position n z + 1 + owed ql + one u
   unfolding due owed
   high-less u fits b st (ends over) = omega arith
-  high-less u fits b st (cuts short e urgent f) = bounds.low-high e
-  high-less u fits b st (warns short e urgent f) = bounds.low-high e
+  high-less u fits b st (cuts short e pre urgent f) = bounds.low-high e
+  high-less u fits b st (warns short e pre urgent f) = bounds.low-high e
   high-less u fits b st (goes x pos n' z' short v free) = omega (arith, shrinks g qh ah n z fits b.even x pos n' z' short v)
 
   none-waits : (pre : Bool) → (pre ≡ true → qh.length ≡ 0) → (pre && loaded qh) ≡ false
@@ -261,13 +261,13 @@ module _ (g : Agreed) (ql qh : LaneState) (n z : ℕ) (t : Settings) (al ah : Li
   none-waits false f = refl
 
   low-less : ql.length ≤ length al → bounds.Bounds g (sender ql qh n z (sending low) false false t) → (st : Step)
-      → Way g false low (sender ql qh n z (sending low) false false t) (lane_d ql al) st → due_in g st.state < due g ql qh n z (sending low) false false
+      → Way g low (sender ql qh n z (sending low) false false t) (lane_d ql al) st → due_in g st.state < due g ql qh n z (sending low) false false
   unfolding due owed
   low-less fits b st (ends over) = branch (λ (m : ℕ). owed qh + 0 + 0 < m) (g.pre && loaded qh) (λ _. omega arith) (λ _. omega arith)
-  low-less fits b st (cuts short e urgent f) = rw (urgent.1, lt-ltb 0 qh.length urgent.2) (omega arith)
-  low-less fits b st (warns short e urgent f) = rw (urgent.1, lt-ltb 0 qh.length urgent.2) (omega arith)
+  low-less fits b st (cuts short e pre urgent f) = rw (pre, lt-ltb 0 qh.length urgent) (omega arith)
+  low-less fits b st (warns short e pre urgent f) = rw (pre, lt-ltb 0 qh.length urgent) (omega arith)
   low-less fits b st (goes x pos n' z' short v free) =
-      rw (none-waits g.pre (λ e. free refl refl e)) (omega (arith, shrinks g ql al n z fits b.even x pos n' z' short v))
+      rw (none-waits g.pre (λ e. free refl e)) (omega (arith, shrinks g ql al n z fits b.even x pos n' z' short v))
 
   -- a low lane comes on the line, with nothing in the high one
   low-enters : qh.length ≡ 0 → 0 < ql.length → n ≡ 0 → z ≡ 0 → due g ql qh n z (sending low) false false ≡ owed ql + owed qh
@@ -275,7 +275,7 @@ module _ (g : Agreed) (ql qh : LaneState) (n z : ℕ) (t : Settings) (al ah : Li
   low-enters k h i j = rw (none-waits g.pre (λ _. k)) (omega (arith, owed-loaded ql n z h i j))
 
   -- and so does every call, unless there is nothing to send
-  turn-less : ql.length ≤ length al → qh.length ≤ length ah → (o : OnLine) (u c : Bool) (st : Step) → Turn g no_guards ql qh n z t al ah o u c st
+  turn-less : ql.length ≤ length al → qh.length ≤ length ah → (o : OnLine) (u c : Bool) (st : Step) → Turn g ql qh n z t al ah o u c st
       → bounds.Bounds g (sender ql qh n z o u c t) → due_in g st.state ≤ due g ql qh n z o u c - 1
   unfolding due
   turn-less hl hh no_lane u c st cut-due b = true-false b.line.2
@@ -283,8 +283,8 @@ module _ (g : Agreed) (ql qh : LaneState) (n z : ℕ) (t : Settings) (al ah : Li
   turn-less hl hh (sending low) u c st cut-due b = omega arith
   turn-less hl hh o true c st (idles h k) b = absurd (omega (arith, b.waits refl))
   turn-less hl hh o false c st (idles h k) b = omega (arith, empty-owed qh h, empty-owed ql k)
-  turn-less hl hh o u c st (resumes-low k) b = omega (arith, low-enters (k refl) (b.waits refl) b.line.0 b.line.1)
-  turn-less hl hh o u c st (begins-high a h w) b =
+  turn-less hl hh o u c st (resumes-low k h) b = omega (arith, low-enters k h b.line.0 b.line.1)
+  turn-less hl hh o u c st (begins-high h w) b =
       omega (arith, high-less u hh (bounds.enter-high g ql qh n z t u h b) st w, owed-loaded qh n z h b.line.0 b.line.1)
   turn-less hl hh o u c st (begins-low k h w) b =
       omega (arith, low-less hl (bounds.enter-low g ql qh n z t false h b) st w, low-enters k h b.line.0 b.line.1)
@@ -319,7 +319,7 @@ module _ (g : Agreed) (ql qh : LaneState) (n z : ℕ) (t : Settings) (al ah : Li
 
 after-calls : (n : ℕ) (w : Station) → SenderReady w.end → due_in (agreed w.end.state.settings) w.end.state ≤ n
     → BothEmpty (run w (replicate n next_octet)).end.state
-unfolding run after_next_by
+unfolding run after_next
 after-calls zero w r h =
     let s = w.end.state in
     let k = none-due (agreed s.settings) s.low s.high s.left s.zeros s.settings w.end.low w.end.high s.on s.suspended s.cut (omega arith) in
@@ -329,11 +329,11 @@ after-calls (suc n) w r h =
     let s = e.state in
     let g = agreed s.settings in
     let u = unrefused e r in
-    let same : agreed (next e).state.settings ≡ g = ap agreed (bounds.next-keeps g no_guards e refl u.bounds).settings in
+    let same : agreed (next e).state.settings ≡ g = ap agreed (bounds.next-keeps g e refl u.bounds).settings in
     let less : due_in g (next e).state ≤ due_in g s - 1 =
-    by_turn no_guards e r (λ st. due_in g st.state ≤ due_in g s - 1)
+    by_turn e r (λ st. due_in g st.state ≤ due_in g s - 1)
     (λ st t. turn-less g s.low s.high s.left s.zeros s.settings e.low e.high u.low u.high s.on s.suspended s.cut st t u.bounds) in
-    after-calls n (after_next w) (ready_on no_guards w r) (rw same (omega arith))
+    after-calls n (after_next w) (ready_on w r) (rw same (omega arith))
 
 pub emptied : Emptied
 emptied w r n h =

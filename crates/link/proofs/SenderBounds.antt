@@ -14,7 +14,7 @@ use Rattle.cobs.proofs.Table.{numbers}
 use Rattle.cobs.proofs.Chosen.{Stands, chosen_at}
 use Rattle.link.specs.Agreed.{Settings, Agreed, agreed, least_packet, least_frame, largest_frame, valid}
 use Rattle.link.specs.Answers.{Answer, done, refused}
-use Rattle.link.specs.Sender.{Lane, low, high, OnLine, no_lane, sending, LaneState, Sender, SenderEnd, refuses, Guards, Step, Load, lane_state, loaded, lane_d, lane_ok, line_ok, lane_on_line_ok, in_bounds, put_frame, load, step1_cut_due, next_by, next}
+use Rattle.link.specs.Sender.{Lane, low, high, OnLine, no_lane, sending, LaneState, Sender, SenderEnd, refuses, Step, Load, lane_state, loaded, lane_d, lane_ok, line_ok, lane_on_line_ok, in_bounds, put_frame, load, step1_cut_due, next}
 use Rattle.link.proofs.Tests.{ands, true-false, false-true, not-below, or_cases}
 use Rattle.link.proofs.Way.{Advance, last, more, covers, opens, Way, ends, cuts, warns, goes, sender, Turn, cut-due, idles, resumes-low, begins-high, begins-low, high-on, low-on, turn}
 use Rattle.link.proofs.Follow.{frame-long}
@@ -220,8 +220,8 @@ module _ (g : Agreed) (ql qh : LaneState) (n z : ℕ) (t : Settings) where
       record { low = b.low; high = b.high; few = b.few; two = b.two; even = b.even; line = line; waits = waits }
 
   -- steps 3 to 6 of the high lane
-  pub high-keeps : {sp : Bool} (u : Bool) (a : List ℕ) → qh.length ≤ length a → Bounds g (sender ql qh n z (sending high) u false t)
-      → (st : Step) → Way g sp high (sender ql qh n z (sending high) u false t) (lane_d qh a) st → Kept g t st.state
+  pub high-keeps : (u : Bool) (a : List ℕ) → qh.length ≤ length a → Bounds g (sender ql qh n z (sending high) u false t)
+      → (st : Step) → Way g high (sender ql qh n z (sending high) u false t) (lane_d qh a) st → Kept g t st.state
   high-keeps u a fits b st (ends over) =
       let room = b.line.0.room in
       record {
@@ -237,8 +237,8 @@ module _ (g : Agreed) (ql qh : LaneState) (n z : ℕ) (t : Settings) where
               waits = b.waits;
             };
       }
-  high-keeps u a fits b st (cuts short e urgent f) = low-high e
-  high-keeps u a fits b st (warns short e urgent f) = low-high e
+  high-keeps u a fits b st (cuts short e pre urgent f) = low-high e
+  high-keeps u a fits b st (warns short e pre urgent f) = low-high e
   high-keeps u a fits b st (goes x pos n' z' short v free) =
       let k = advance g qh a fits n z (record { room = b.line.0.room; few = b.few; two = b.two; even = b.even }) short x pos n' z' v in
       record {
@@ -256,8 +256,8 @@ module _ (g : Agreed) (ql qh : LaneState) (n z : ℕ) (t : Settings) where
       }
 
   -- of the low lane
-  pub low_keeps : {sp : Bool} (a : List ℕ) → ql.length ≤ length a → Bounds g (sender ql qh n z (sending low) false false t)
-      → (st : Step) → Way g sp low (sender ql qh n z (sending low) false false t) (lane_d ql a) st → Kept g t st.state
+  pub low_keeps : (a : List ℕ) → ql.length ≤ length a → Bounds g (sender ql qh n z (sending low) false false t)
+      → (st : Step) → Way g low (sender ql qh n z (sending low) false false t) (lane_d ql a) st → Kept g t st.state
   low_keeps a fits b st (ends over) =
       let room = b.line.0.room in
       record {
@@ -273,7 +273,7 @@ module _ (g : Agreed) (ql qh : LaneState) (n z : ℕ) (t : Settings) where
               waits = λ e. false-true e;
             };
       }
-  low_keeps a fits b st (cuts short e urgent f) =
+  low_keeps a fits b st (cuts short e pre urgent f) =
       record {
         settings = refl;
         bounds =
@@ -287,7 +287,7 @@ module _ (g : Agreed) (ql qh : LaneState) (n z : ℕ) (t : Settings) where
               waits = λ _. b.line.0.loaded;
             };
       }
-  low_keeps a fits b st (warns short e urgent f) =
+  low_keeps a fits b st (warns short e pre urgent f) =
       record { settings = refl; bounds = relined (sending low) false true (b.line.0, refl, λ _. f) (λ e. false-true e) b }
   low_keeps a fits b st (goes x pos n' z' short v free) =
       let k = advance g ql a fits n z (record { room = b.line.0.room; few = b.few; two = b.two; even = b.even }) short x pos n' z' v in
@@ -324,23 +324,23 @@ module _ (g : Agreed) (ql qh : LaneState) (n z : ℕ) (t : Settings) where
       b
 
   -- whichever step applies
-  turn-keeps : {gs : Guards} (al ah : List ℕ) → largest_frame g ≤ length al → largest_frame g ≤ length ah → (o : OnLine) (u c : Bool) (st : Step)
-      → Turn g gs ql qh n z t al ah o u c st → Bounds g (sender ql qh n z o u c t) → Kept g t st.state
+  turn-keeps : (al ah : List ℕ) → largest_frame g ≤ length al → largest_frame g ≤ length ah → (o : OnLine) (u c : Bool) (st : Step)
+      → Turn g ql qh n z t al ah o u c st → Bounds g (sender ql qh n z o u c t) → Kept g t st.state
   turn-keeps al ah hl hh no_lane u c st cut-due b = true-false b.line.2
   turn-keeps al ah hl hh (sending high) u c st cut-due b = true-false b.line.1
   turn-keeps al ah hl hh (sending low) u c st cut-due b = cut_keeps u b
   turn-keeps al ah hl hh o u c st (idles i j) b = record { settings = refl; bounds = b }
-  turn-keeps al ah hl hh o u c st (resumes-low i) b = record { settings = refl; bounds = enter-low true (b.waits refl) b }
-  turn-keeps al ah hl hh o u c st (begins-high a h w) b = high-keeps u ah (fits-area g qh ah b.high hh) (enter-high u h b) st w
+  turn-keeps al ah hl hh o u c st (resumes-low i h) b = record { settings = refl; bounds = enter-low true h b }
+  turn-keeps al ah hl hh o u c st (begins-high h w) b = high-keeps u ah (fits-area g qh ah b.high hh) (enter-high u h b) st w
   turn-keeps al ah hl hh o u c st (begins-low i h w) b = low_keeps al (fits-area g ql al b.low hl) (enter-low false h b) st w
   turn-keeps al ah hl hh o u c st (high-on w) b = high-keeps u ah (fits-area g qh ah b.high hh) b st w
   turn-keeps al ah hl hh o true c st (low-on w) b = true-false b.line.1
   turn-keeps al ah hl hh o false c st (low-on w) b = low_keeps al (fits-area g ql al b.low hl) b st w
 
 -- next octet
-pub next-keeps : (g : Agreed) (gs : Guards) (e : SenderEnd) → agreed e.state.settings ≡ g → Bounds g e.state → Kept g e.state.settings (next_by gs e).state
-unfolding next_by
-next-keeps g gs e ag b =
+pub next-keeps : (g : Agreed) (e : SenderEnd) → agreed e.state.settings ≡ g → Bounds g e.state → Kept g e.state.settings (next e).state
+unfolding next
+next-keeps g e ag b =
     let s = e.state in
     let P : Step → Type 0 = λ st. Kept g s.settings st.state in
     let short = ltb (length e.low) (largest_frame g) || ltb (length e.high) (largest_frame g) in
@@ -352,7 +352,7 @@ next-keeps g gs e ag b =
     let long = not-below (length e.low) (largest_frame g) (length e.high) (largest_frame g) k in
     turn-keeps g s.low s.high s.left s.zeros s.settings e.low e.high long.0 long.1
     s.on s.suspended s.cut _
-    (turn g gs s.low s.high s.left s.zeros s.settings e.low e.high s.on s.suspended s.cut) b))))
+    (turn g s.low s.high s.left s.zeros s.settings e.low e.high s.on s.suspended s.cut) b))))
 
 -- ---- a lane that holds nothing is neither on the line nor suspended
 
@@ -483,18 +483,18 @@ module _ (l : Lane) (p : List ℕ) (s : Sender) (area : List ℕ) where
   unfolding load
   load-out-of-bounds v k b = simp (v, k, b)
 
-module _ (gs : Guards) (e : SenderEnd) where
+module _ (e : SenderEnd) where
   abbrev short : Bool
   short = ltb (length e.low) (largest_frame (agreed e.state.settings)) || ltb (length e.high) (largest_frame (agreed e.state.settings))
 
-  pub next-invalid : valid (agreed e.state.settings) ≡ false → next_by gs e ≡ record { out = refuses 3; state = e.state }
-  unfolding next_by
+  pub next-invalid : valid (agreed e.state.settings) ≡ false → next e ≡ record { out = refuses 3; state = e.state }
+  unfolding next
   next-invalid v = simp v
 
-  pub next-short : valid (agreed e.state.settings) ≡ true → short ≡ true → next_by gs e ≡ record { out = refuses 2; state = e.state }
-  unfolding next_by
+  pub next-short : valid (agreed e.state.settings) ≡ true → short ≡ true → next e ≡ record { out = refuses 2; state = e.state }
+  unfolding next
   next-short v k = simp (v, k)
 
-  pub next-out-of-bounds : valid (agreed e.state.settings) ≡ true → short ≡ false → in_bounds (agreed e.state.settings) e.state ≡ false → next_by gs e ≡ record { out = refuses 3; state = e.state }
-  unfolding next_by
+  pub next-out-of-bounds : valid (agreed e.state.settings) ≡ true → short ≡ false → in_bounds (agreed e.state.settings) e.state ≡ false → next e ≡ record { out = refuses 3; state = e.state }
+  unfolding next
   next-out-of-bounds v k b = simp (v, k, b)

@@ -10,8 +10,8 @@ use lib.ListN.{length, take, drop, get_or, length-take}
 use lib.Seq.{get_or-drop, take-append_seam}
 use Rattle.cobs.specs.CodeBlocks.{frame}
 use Rattle.link.specs.Agreed.{Settings, Agreed, agreed, least_packet}
-use Rattle.link.specs.Sender.{Lane, low, high, OnLine, no_lane, sending, LaneState, Sender, Guards, Step, lane_area, lane_d, put_frame}
-use Rattle.link.specs.Runs.{Station, fresh_station, loaded_by, after_load, after_step, after_next_by, run, SenderCall, loading, next_octet_by}
+use Rattle.link.specs.Sender.{Lane, low, high, OnLine, no_lane, sending, LaneState, Sender, Step, lane_area, lane_d, put_frame}
+use Rattle.link.specs.Runs.{Station, fresh_station, loaded_by, after_load, after_step, after_next, run, SenderCall, loading, next_octet}
 use Rattle.link.proofs.Tests.{true-false, false-true}
 use Rattle.link.proofs.Way.{Advance, last, more, covers, opens, Way, ends, cuts, warns, goes, sender, Turn, cut-due, idles, resumes-low, begins-high, begins-low, high-on, low-on, by_next}
 use Rattle.link.proofs.Follow.{BlockAt}
@@ -99,11 +99,11 @@ module _ (g : Agreed) (q : LaneState) (a : List ℕ) (n z : ℕ) (fits : q.lengt
 
 module _ (g : Agreed) (ql qh : LaneState) (n z : ℕ) (t : Settings) (al ah : List ℕ) (bl bh : Option (List ℕ)) where
   -- steps 3 to 6 of the high lane
-  pub sound-high : {sp : Bool} (u : Bool) → Sound g (station (sender ql qh n z (sending high) u false t) al ah bl bh)
-      → (st : Step) → Way g sp high (sender ql qh n z (sending high) u false t) (lane_d qh ah) st
+  pub sound-high : (u : Bool) → Sound g (station (sender ql qh n z (sending high) u false t) al ah bl bh)
+      → (st : Step) → Way g high (sender ql qh n z (sending high) u false t) (lane_d qh ah) st
       → Sound g (after_step (station (sender ql qh n z (sending high) u false t) al ah bl bh) st)
-  sound-high {sp} u s st (ends over) =
-      let k = bounds.high-keeps g ql qh n z t {sp = sp} u ah (stock-fits g qh ah bh s.stock-high) s.in-bounds st (ends over) in
+  sound-high u s st (ends over) =
+      let k = bounds.high-keeps g ql qh n z t u ah (stock-fits g qh ah bh s.stock-high) s.in-bounds st (ends over) in
       record {
         agrees = s.agrees;
         in-bounds = k.bounds;
@@ -111,8 +111,8 @@ module _ (g : Agreed) (ql qh : LaneState) (n z : ℕ) (t : Settings) (al ah : Li
         stock-high = refl;
         line = (refl, s.line.1);
       }
-  sound-high u s st (cuts short e urgent f) = bounds.low-high e
-  sound-high u s st (warns short e urgent f) = bounds.low-high e
+  sound-high u s st (cuts short e pre urgent f) = bounds.low-high e
+  sound-high u s st (warns short e pre urgent f) = bounds.low-high e
   sound-high u s st (goes x pos n' z' short v free) =
       let fits = stock-fits g qh ah bh s.stock-high in
       let k = bounds.high-keeps g ql qh n z t u ah fits s.in-bounds st (goes x pos n' z' short v free) in
@@ -125,36 +125,36 @@ module _ (g : Agreed) (ql qh : LaneState) (n z : ℕ) (t : Settings) (al ah : Li
       }
 
   -- of the low lane
-  low-in-bounds : {sp : Bool} → Sound g (station (sender ql qh n z (sending low) false false t) al ah bl bh)
-      → (st : Step) → Way g sp low (sender ql qh n z (sending low) false false t) (lane_d ql al) st → bounds.Bounds g st.state
+  low-in-bounds : Sound g (station (sender ql qh n z (sending low) false false t) al ah bl bh)
+      → (st : Step) → Way g low (sender ql qh n z (sending low) false false t) (lane_d ql al) st → bounds.Bounds g st.state
   low-in-bounds s st w = (bounds.low_keeps g ql qh n z t al (stock-fits g ql al bl s.stock-low) s.in-bounds st w).bounds
 
-  pub sound-low : {sp : Bool} → Sound g (station (sender ql qh n z (sending low) false false t) al ah bl bh)
-      → (st : Step) → Way g sp low (sender ql qh n z (sending low) false false t) (lane_d ql al) st
+  pub sound-low : Sound g (station (sender ql qh n z (sending low) false false t) al ah bl bh)
+      → (st : Step) → Way g low (sender ql qh n z (sending low) false false t) (lane_d ql al) st
       → Sound g (after_step (station (sender ql qh n z (sending low) false false t) al ah bl bh) st)
-  sound-low {sp} s st (ends over) =
+  sound-low s st (ends over) =
       record {
         agrees = s.agrees;
-        in-bounds = low-in-bounds {sp = sp} s st (ends over);
+        in-bounds = low-in-bounds s st (ends over);
         stock-low = refl;
         stock-high = s.stock-high;
         line = (s.line.1, refl);
       }
-  sound-low s st (cuts short e urgent f) =
+  sound-low s st (cuts short e pre urgent f) =
       record {
         agrees = s.agrees;
-        in-bounds = low-in-bounds s st (cuts short e urgent f);
+        in-bounds = low-in-bounds s st (cuts short e pre urgent f);
         stock-low = s.stock-low;
         stock-high = s.stock-high;
-        line = (s.line.1, record { short = short; pre = urgent.1 });
+        line = (s.line.1, record { short = short; pre = pre });
       }
-  sound-low s st (warns short e urgent f) =
+  sound-low s st (warns short e pre urgent f) =
       record {
         agrees = s.agrees;
-        in-bounds = low-in-bounds s st (warns short e urgent f);
+        in-bounds = low-in-bounds s st (warns short e pre urgent f);
         stock-low = s.stock-low;
         stock-high = s.stock-high;
-        line = (record { short = short; pre = urgent.1 }, s.line.1);
+        line = (record { short = short; pre = pre }, s.line.1);
       }
   sound-low s st (goes x pos n' z' short v free) =
       let fits = stock-fits g ql al bl s.stock-low in
@@ -191,7 +191,7 @@ module _ (g : Agreed) (ql qh : LaneState) (n z : ℕ) (t : Settings) (al ah : Li
       }
 
   -- whichever step applies
-  sound-turn : {gs : Guards} (o : OnLine) (u c : Bool) (st : Step) → Turn g gs ql qh n z t al ah o u c st → Sound g (station (sender ql qh n z o u c t) al ah bl bh)
+  sound-turn : (o : OnLine) (u c : Bool) (st : Step) → Turn g ql qh n z t al ah o u c st → Sound g (station (sender ql qh n z o u c t) al ah bl bh)
       → Sound g (after_step (station (sender ql qh n z o u c t) al ah bl bh) st)
   sound-turn no_lane u c st cut-due s = true-false s.in-bounds.line.2
   sound-turn (sending high) u c st cut-due s = true-false s.in-bounds.line.1
@@ -204,15 +204,15 @@ module _ (g : Agreed) (ql qh : LaneState) (n z : ℕ) (t : Settings) (al ah : Li
         line = (s.line.1, s.line.0);
       }
   sound-turn o u c st (idles i j) s = s
-  sound-turn o u c st (resumes-low i) s =
+  sound-turn o u c st (resumes-low i h) s =
       record {
         agrees = s.agrees;
-        in-bounds = bounds.enter-low g ql qh n z t true (s.in-bounds.waits refl) s.in-bounds;
+        in-bounds = bounds.enter-low g ql qh n z t true h s.in-bounds;
         stock-low = s.stock-low;
         stock-high = s.stock-high;
         line = (block_0 (lane_d ql al) ql.position n z s.in-bounds.line.0 s.in-bounds.line.1, s.line.0);
       }
-  sound-turn o u c st (begins-high a h w) s = sound-high u (enter-high u h s) st w
+  sound-turn o u c st (begins-high h w) s = sound-high u (enter-high u h s) st w
   sound-turn o u c st (begins-low i h w) s = sound-low (enter-low h s) st w
   sound-turn o u c st (high-on w) s = sound-high u s st w
   sound-turn o true c st (low-on w) s = true-false s.in-bounds.line.1
@@ -220,12 +220,12 @@ module _ (g : Agreed) (ql qh : LaneState) (n z : ℕ) (t : Settings) (al ah : Li
 
 -- ---- the calls
 
-pub sound-next : (g : Agreed) (gs : Guards) (w : Station) → Sound g w → Sound g (after_next_by gs w)
-unfolding after_next_by
-sound-next g gs w s =
+pub sound-next : (g : Agreed) (w : Station) → Sound g w → Sound g (after_next w)
+unfolding after_next
+sound-next g w s =
     let e = w.end in
     let r = e.state in
-    by_next g gs e s.agrees (λ st. Sound g (after_step w st)) (λ _. s)
+    by_next g e s.agrees (λ st. Sound g (after_step w st)) (λ _. s)
     (λ st t.
     sound-turn g r.low r.high r.left r.zeros r.settings e.low e.high w.lanes.low w.lanes.high
     r.on r.suspended r.cut st t s)
@@ -317,4 +317,4 @@ pub sound-run : (g : Agreed) (w : Station) (cs : List SenderCall) → Sound g w 
 unfolding run
 sound-run g w [] s = s
 sound-run g w (loading l p ∷ cs) s = sound-run g (after_load l p w) cs (sound-load g l p w s)
-sound-run g w (next_octet_by gs ∷ cs) s = sound-run g (after_next_by gs w) cs (sound-next g gs w s)
+sound-run g w (next_octet ∷ cs) s = sound-run g (after_next w) cs (sound-next g w s)

@@ -8,8 +8,8 @@ use Rattle.cobs.specs.CodeBlocks.{flag, to_line}
 use Rattle.cobs.proofs.Exchange.{no_flag}
 use Rattle.link.specs.Agreed.{Settings, Agreed}
 use Rattle.link.specs.Answers.{Answer, octet, idle, refused}
-use Rattle.link.specs.Sender.{Lane, low, high, OnLine, no_lane, sending, LaneState, Out, closes, breaks_off, sends, sends_nothing, refuses, Guards, Step, out_answer, lane_d, next_by, put_frame}
-use Rattle.link.specs.Runs.{Station, under_way_after, under_way, Written, writes, written, after_load, after_next_by, run, SenderCall, loading, next_octet_by}
+use Rattle.link.specs.Sender.{Lane, low, high, OnLine, no_lane, sending, LaneState, Out, closes, breaks_off, sends, sends_nothing, refuses, Step, out_answer, lane_d, next, put_frame}
+use Rattle.link.specs.Runs.{Station, under_way_after, under_way, Written, writes, written, after_load, after_next, run, SenderCall, loading, next_octet}
 use Rattle.link.proofs.Tests.{true-false}
 use Rattle.link.proofs.Way.{Way, ends, cuts, warns, goes, sender, Turn, cut-due, idles, resumes-low, begins-high, begins-low, high-on, low-on, by_next}
 use Rattle.link.proofs.SenderBounds as bounds
@@ -48,58 +48,58 @@ lanes P h k high = k
 
 module _ (g : Agreed) (ql qh : LaneState) (n z : ℕ) (t : Settings) (d : List ℕ) where
   -- a lane goes on, or begins
-  high_goes : {sp : Bool} (u : Bool) (st : Step) → Way g sp high (sender ql qh n z (sending high) u false t) d st → After (sending high) u st
+  high_goes : (u : Bool) (st : Step) → Way g high (sender ql qh n z (sending high) u false t) d st → After (sending high) u st
   high_goes true st (ends over) = record { way = lanes _ refl refl; off = λ _. refl }
   high_goes false st (ends over) = record { way = lanes _ refl refl; off = λ _. refl }
-  high_goes u st (cuts short e urgent f) = bounds.low-high e
-  high_goes u st (warns short e urgent f) = bounds.low-high e
+  high_goes u st (cuts short e pre urgent f) = bounds.low-high e
+  high_goes u st (warns short e pre urgent f) = bounds.low-high e
   high_goes true st (goes x pos n' z' short v free) = record { way = lanes _ refl refl; off = λ i. plain (to_line x) i (no_flag x) }
   high_goes false st (goes x pos n' z' short v free) = record { way = lanes _ refl refl; off = λ i. plain (to_line x) i (no_flag x) }
 
-  high-begins : {sp : Bool} (u : Bool) (st : Step) → Way g sp high (sender ql qh n z (sending high) u false t) d st → After no_lane u st
+  high-begins : (u : Bool) (st : Step) → Way g high (sender ql qh n z (sending high) u false t) d st → After no_lane u st
   high-begins true st (ends over) = record { way = lanes _ refl refl; off = λ _. refl }
   high-begins false st (ends over) = record { way = lanes _ refl refl; off = λ _. refl }
-  high-begins u st (cuts short e urgent f) = bounds.low-high e
-  high-begins u st (warns short e urgent f) = bounds.low-high e
+  high-begins u st (cuts short e pre urgent f) = bounds.low-high e
+  high-begins u st (warns short e pre urgent f) = bounds.low-high e
   high-begins true st (goes x pos n' z' short v free) = record { way = lanes _ refl refl; off = λ i. plain (to_line x) i (no_flag x) }
   high-begins false st (goes x pos n' z' short v free) = record { way = lanes _ refl refl; off = λ i. plain (to_line x) i (no_flag x) }
 
-  low_goes : {sp : Bool} (st : Step) → Way g sp low (sender ql qh n z (sending low) false false t) d st → After (sending low) false st
+  low_goes : (st : Step) → Way g low (sender ql qh n z (sending low) false false t) d st → After (sending low) false st
   low_goes st (ends over) = record { way = lanes _ refl refl; off = λ _. refl }
-  low_goes st (cuts short e urgent f) = record { way = lanes _ refl refl; off = λ _. refl }
-  low_goes st (warns short e urgent f) = record { way = lanes _ refl refl; off = λ i. plain 0x02 i (λ q. omega arith) }
+  low_goes st (cuts short e pre urgent f) = record { way = lanes _ refl refl; off = λ _. refl }
+  low_goes st (warns short e pre urgent f) = record { way = lanes _ refl refl; off = λ i. plain 0x02 i (λ q. omega arith) }
   low_goes st (goes x pos n' z' short v free) = record { way = lanes _ refl refl; off = λ i. plain (to_line x) i (no_flag x) }
 
-  low-begins : {sp : Bool} (st : Step) → Way g sp low (sender ql qh n z (sending low) false false t) d st → After no_lane false st
+  low-begins : (st : Step) → Way g low (sender ql qh n z (sending low) false false t) d st → After no_lane false st
   low-begins st (ends over) = record { way = lanes _ refl refl; off = λ _. refl }
-  low-begins st (cuts short e urgent f) = record { way = lanes _ refl refl; off = λ _. refl }
-  low-begins st (warns short e urgent f) = record { way = lanes _ refl refl; off = λ i. plain 0x02 i (λ q. omega arith) }
+  low-begins st (cuts short e pre urgent f) = record { way = lanes _ refl refl; off = λ _. refl }
+  low-begins st (warns short e pre urgent f) = record { way = lanes _ refl refl; off = λ i. plain 0x02 i (λ q. omega arith) }
   low-begins st (goes x pos n' z' short v free) = record { way = lanes _ refl refl; off = λ i. plain (to_line x) i (no_flag x) }
 
 module _ (g : Agreed) (ql qh : LaneState) (n z : ℕ) (t : Settings) (al ah : List ℕ) where
-  after_turn : {gs : Guards} (o : OnLine) (u c : Bool) (st : Step) → Turn g gs ql qh n z t al ah o u c st → bounds.Bounds g (sender ql qh n z o u c t) → After o u st
+  after_turn : (o : OnLine) (u c : Bool) (st : Step) → Turn g ql qh n z t al ah o u c st → bounds.Bounds g (sender ql qh n z o u c t) → After o u st
   after_turn no_lane u c st cut-due b = true-false b.line.2
   after_turn (sending high) u c st cut-due b = true-false b.line.1
   after_turn (sending low) u c st cut-due b = record { way = lanes _ refl refl; off = λ _. refl }
   after_turn o u c st (idles i j) b = record { way = lanes _ refl refl; off = λ k. silent k }
-  after_turn o u c st (resumes-low i) b = record { way = lanes _ refl refl; off = λ q. plain 0xD1 q (λ r. omega arith) }
-  after_turn o u c st (begins-high a h w) b = high-begins g ql qh n z t (lane_d qh ah) u st w
+  after_turn o u c st (resumes-low i h) b = record { way = lanes _ refl refl; off = λ q. plain 0xD1 q (λ r. omega arith) }
+  after_turn o u c st (begins-high h w) b = high-begins g ql qh n z t (lane_d qh ah) u st w
   after_turn o u c st (begins-low i h w) b = low-begins g ql qh n z t (lane_d ql al) st w
   after_turn o u c st (high-on w) b = high_goes g ql qh n z t (lane_d qh ah) u st w
   after_turn o true c st (low-on w) b = true-false b.line.1
   after_turn o false c st (low-on w) b = low_goes g ql qh n z t (lane_d ql al) st w
 
-after_next_lem : (g : Agreed) (gs : Guards) (w : Station) → Sound g w → After w.end.state.on w.end.state.suspended (next_by gs w.end)
-after_next_lem g gs w s =
+after_next_lem : (g : Agreed) (w : Station) → Sound g w → After w.end.state.on w.end.state.suspended (next w.end)
+after_next_lem g w s =
     let e = w.end in
     let r = e.state in
-    by_next g gs e s.agrees (After r.on r.suspended) (λ n. record { way = λ l. refl; off = λ i. no-octet n i })
+    by_next g e s.agrees (After r.on r.suspended) (λ n. record { way = λ l. refl; off = λ i. no-octet n i })
     (λ st t.
     after_turn g r.low r.high r.left r.zeros r.settings e.low e.high r.on r.suspended r.cut st t s.in-bounds)
 
-pub flag_off : (g : Agreed) (gs : Guards) (w : Station) → Sound g w → as_flag (out_answer (next_by gs w.end).out) → (after_next_by gs w).end.state.on ≡ no_lane
-unfolding after_next_by
-flag_off g gs w s f = (after_next_lem g gs w s).off f
+pub flag_off : (g : Agreed) (w : Station) → Sound g w → as_flag (out_answer (next w.end).out) → (after_next w).end.state.on ≡ no_lane
+unfolding after_next
+flag_off g w s f = (after_next_lem g w s).off f
 
 -- ---- over a list of calls
 
@@ -111,9 +111,9 @@ unfolding put_frame
 load-under-way g l low p w s = by-load g low p w (λ v. under_way_in l v ≡ under_way_in l w) s.agrees refl (λ _. refl)
 load-under-way g l high p w s = by-load g high p w (λ v. under_way_in l v ≡ under_way_in l w) s.agrees refl (λ _. refl)
 
-next-under-way : (g : Agreed) (gs : Guards) (l : Lane) (w : Station) → Sound g w → under_way_after l (under_way_in l w) (next_by gs w.end).out ≡ under_way_in l (after_next_by gs w)
-unfolding after_next_by
-next-under-way g gs l w s = (after_next_lem g gs w s).way l
+next-under-way : (g : Agreed) (l : Lane) (w : Station) → Sound g w → under_way_after l (under_way_in l w) (next w.end).out ≡ under_way_in l (after_next w)
+unfolding after_next
+next-under-way g l w s = (after_next_lem g w s).way l
 
 writes-under-way : (l : Lane) (b : Bool) (o : Out) (w : Station) (es : List Written) → under_way l b (writes o w es) ≡ under_way l (under_way_after l b o) es
 unfolding under_way
@@ -129,13 +129,13 @@ under-way g l w [] s = refl
 under-way g l w (loading k p ∷ cs) s =
     ap (λ (b : Bool). under_way l b (written (after_load k p w) cs)) (sym (load-under-way g l k p w s))
     ∙ under-way g l (after_load k p w) cs (sound-load g k p w s)
-under-way g l w (next_octet_by gs ∷ cs) s =
-    writes-under-way l (under_way_in l w) (next_by gs w.end).out w (written (after_next_by gs w) cs)
-    ∙ (ap (λ (b : Bool). under_way l b (written (after_next_by gs w) cs)) (next-under-way g gs l w s)
-    ∙ under-way g l (after_next_by gs w) cs (sound-next g gs w s))
+under-way g l w (next_octet ∷ cs) s =
+    writes-under-way l (under_way_in l w) (next w.end).out w (written (after_next w) cs)
+    ∙ (ap (λ (b : Bool). under_way l b (written (after_next w) cs)) (next-under-way g l w s)
+    ∙ under-way g l (after_next w) cs (sound-next g w s))
 
 pub run-append : (w : Station) (cs ds : List SenderCall) → run w (cs ++ ds) ≡ run (run w cs) ds
 unfolding run
 run-append w [] ds = refl
 run-append w (loading l p ∷ cs) ds = run-append (after_load l p w) cs ds
-run-append w (next_octet_by gs ∷ cs) ds = run-append (after_next_by gs w) cs ds
+run-append w (next_octet ∷ cs) ds = run-append (after_next w) cs ds

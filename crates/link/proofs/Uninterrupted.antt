@@ -13,9 +13,9 @@ use Rattle.cobs.proofs.Blocks.{on-line-nil, on-line-cons}
 use Rattle.cobs.proofs.Frame.{frame-sent, frame-next, frame-end}
 use Rattle.link.specs.Agreed.{Settings, Agreed, agreed}
 use Rattle.link.specs.Answers.{refused}
-use Rattle.link.specs.Sender.{Lane, low, high, OnLine, no_lane, sending, LaneState, Sender, SenderEnd, Load, Guards, Step, Out, closes, sends, lane_state, lane_area, lane_d, with_lane, with_block, with_line, put_frame}
+use Rattle.link.specs.Sender.{Lane, low, high, OnLine, no_lane, sending, LaneState, Sender, SenderEnd, Load, Step, Out, closes, sends, lane_state, lane_area, lane_d, with_lane, with_block, with_line, put_frame}
 use Rattle.link.specs.SenderParts.{SenderReady}
-use Rattle.link.specs.Runs.{SenderCall, loading, next_octet_by, Station, same_lane, is_done, loaded_by, after_step, after_load, after_next_by, loaded_into, writes, written}
+use Rattle.link.specs.Runs.{SenderCall, loading, next_octet, Station, same_lane, is_done, loaded_by, after_step, after_load, after_next, loaded_into, writes, written}
 use Rattle.link.specs.Progress.{next_calls, SendsOf, SentUninterrupted, still_to_send, RestUninterrupted}
 use Rattle.link.proofs.Tests.{true-false}
 use Rattle.link.proofs.Way.{Advance, last, more, covers, opens, Way, ends, cuts, warns, goes, sender, Turn, cut-due, idles, resumes-low, begins-high, begins-low, high-on, low-on, line-free, not-high}
@@ -67,21 +67,17 @@ module _ (zxe : Bool) (f : List ℕ) where
 
 -- ---- a lane on the line
 
-no-guard : (a : Bool) → (a && true) ≡ false → a ≡ false
-no-guard true e = e
-no-guard false e = refl
-
 module _ (g : Agreed) (ql qh : LaneState) (n z : ℕ) (t : Settings) (al ah : List ℕ) where
   abbrev end : OnLine → Bool → Bool → SenderEnd
   end o u c = record { state = sender ql qh n z o u c t; low = al; high = ah }
 
   -- it goes on
-  goes_on : {gs : Guards} (l : Lane) (o : OnLine) (u c : Bool) (st : Step) → Turn g gs ql qh n z t al ah o u c st → o ≡ sending l → c ≡ false
-      → Way g gs.spared l (sender ql qh n z o u c t) (lane_d (lane_state l (sender ql qh n z o u c t)) (lane_area l (end o u c))) st
+  goes_on : (l : Lane) (o : OnLine) (u c : Bool) (st : Step) → Turn g ql qh n z t al ah o u c st → o ≡ sending l → c ≡ false
+      → Way g l (sender ql qh n z o u c t) (lane_d (lane_state l (sender ql qh n z o u c t)) (lane_area l (end o u c))) st
   goes_on l o u c st cut-due i j = true-false j
   goes_on l o u c st (idles h k) i j = line-free l (sym i)
-  goes_on l o u c st (resumes-low k) i j = line-free l (sym i)
-  goes_on l o u c st (begins-high a h w) i j = line-free l (sym i)
+  goes_on l o u c st (resumes-low k h) i j = line-free l (sym i)
+  goes_on l o u c st (begins-high h w) i j = line-free l (sym i)
   goes_on l o u c st (begins-low k h w) i j = line-free l (sym i)
   goes_on low o u c st (high-on w) i j = not-high i
   goes_on high o u c st (high-on w) i j = w
@@ -89,20 +85,20 @@ module _ (g : Agreed) (ql qh : LaneState) (n z : ℕ) (t : Settings) (al ah : Li
   goes_on high o u c st (low-on w) i j = not-high (sym i)
 
   -- or begins
-  goes_first : {gs : Guards} (l : Lane) (o : OnLine) (u c : Bool) (st : Step) → Turn g gs ql qh n z t al ah o u c st → o ≡ no_lane → c ≡ false
-      → 0 < (lane_state l (sender ql qh n z o u c t)).length → (l ≡ low → qh.length ≡ 0) → (l ≡ low → u ≡ false) → (gs.ahead && u) ≡ false
-      → Way g gs.spared l (sender ql qh n z (sending l) u c t) (lane_d (lane_state l (sender ql qh n z o u c t)) (lane_area l (end o u c))) st
-  goes_first l o u c st cut-due i j some free new kept = true-false j
-  goes_first low o u c st (idles h k) i j some free new kept = absurd (omega arith)
-  goes_first high o u c st (idles h k) i j some free new kept = absurd (omega arith)
-  goes_first low o u c st (resumes-low k) i j some free new kept = true-false (new refl)
-  goes_first high o u c st (resumes-low k) i j some free new kept = absurd (omega (arith, k (no-guard _ kept)))
-  goes_first low o u c st (begins-high a h w) i j some free new kept = absurd (omega (arith, free refl))
-  goes_first high o u c st (begins-high a h w) i j some free new kept = w
-  goes_first low o u c st (begins-low k h w) i j some free new kept = w
-  goes_first high o u c st (begins-low k h w) i j some free new kept = absurd (omega arith)
-  goes_first l o u c st (high-on w) i j some free new kept = line-free high i
-  goes_first l o u c st (low-on w) i j some free new kept = line-free low i
+  goes_first : (l : Lane) (o : OnLine) (u c : Bool) (st : Step) → Turn g ql qh n z t al ah o u c st → o ≡ no_lane → c ≡ false
+      → 0 < (lane_state l (sender ql qh n z o u c t)).length → (l ≡ low → qh.length ≡ 0) → (l ≡ low → u ≡ false)
+      → Way g l (sender ql qh n z (sending l) u c t) (lane_d (lane_state l (sender ql qh n z o u c t)) (lane_area l (end o u c))) st
+  goes_first l o u c st cut-due i j some free new = true-false j
+  goes_first low o u c st (idles h k) i j some free new = absurd (omega arith)
+  goes_first high o u c st (idles h k) i j some free new = absurd (omega arith)
+  goes_first low o u c st (resumes-low k h) i j some free new = true-false (new refl)
+  goes_first high o u c st (resumes-low k h) i j some free new = absurd (omega arith)
+  goes_first low o u c st (begins-high h w) i j some free new = absurd (omega (arith, free refl))
+  goes_first high o u c st (begins-high h w) i j some free new = w
+  goes_first low o u c st (begins-low k h w) i j some free new = w
+  goes_first high o u c st (begins-low k h w) i j some free new = absurd (omega arith)
+  goes_first l o u c st (high-on w) i j some free new = line-free high i
+  goes_first l o u c st (low-on w) i j some free new = line-free low i
 
 -- ---- one call
 
@@ -166,22 +162,22 @@ module _ (g : Agreed) (l : Lane) (f : List ℕ) where
       agreed st.state.settings ≡ g → SenderReady (after_step w st).end → NoneUrgent (after_step w st) cs
       → SendsOf l octets (next_calls cs + 1) (writes st.out w (written (after_step w st) cs))
 
-  through : (gs : Guards) (octets : List ℕ) (w : Station) (cs : List SenderCall) → agreed w.end.state.settings ≡ g → SenderReady w.end → NoneUrgent w (next_octet_by gs ∷ cs)
+  through : (octets : List ℕ) (w : Station) (cs : List SenderCall) → agreed w.end.state.settings ≡ g → SenderReady w.end → NoneUrgent w (next_octet ∷ cs)
       → (let e = w.end in
       let s = e.state in
-      (st : Step) → Turn g gs s.low s.high s.left s.zeros s.settings e.low e.high s.on s.suspended s.cut st → Through octets w cs st)
-      → Sends w (next_octet_by gs ∷ cs) octets
-  unfolding Through written loaded_into next_calls after_next_by
-  through gs octets w cs agrees r none h =
+      (st : Step) → Turn g s.low s.high s.left s.zeros s.settings e.low e.high s.on s.suspended s.cut st → Through octets w cs st)
+      → Sends w (next_octet ∷ cs) octets
+  unfolding Through written loaded_into next_calls after_next
+  through octets w cs agrees r none h =
       let e = w.end in
       let s = e.state in
-      by_turn gs e r (Through octets w cs)
+      by_turn e r (Through octets w cs)
       (λ st t.
-      h st (subst (λ (a : Agreed). Turn a gs s.low s.high s.left s.zeros s.settings e.low e.high s.on s.suspended s.cut st) agrees t))
-      (ap agreed (bounds.next-keeps (agreed s.settings) gs e refl (unrefused e r).bounds).settings ∙ agrees)
-      (ready_on gs w r) none
+      h st (subst (λ (a : Agreed). Turn a s.low s.high s.left s.zeros s.settings e.low e.high s.on s.suspended s.cut st) agrees t))
+      (ap agreed (bounds.next-keeps (agreed s.settings) e refl (unrefused e r).bounds).settings ∙ agrees)
+      (ready_on w r) none
 
-  one-call : {sp : Bool} (octets : List ℕ) (w : Station) (cs : List SenderCall) (s : Sender) (st : Step) → Way g sp l s (with_phantom f) st → OnLineWith s → ahead s ≡ octets
+  one-call : (octets : List ℕ) (w : Station) (cs : List SenderCall) (s : Sender) (st : Step) → Way g l s (with_phantom f) st → OnLineWith s → ahead s ≡ octets
       → take (lane_state l s).length (lane_area l w.end) ≡ f
       → ((v : Station) (rest : List ℕ) → InFrame v.end → ahead v.end.state ≡ rest → NoneUrgent v cs → Sends v cs rest)
       → Through octets w cs st
@@ -190,8 +186,8 @@ module _ (g : Agreed) (l : Lane) (f : List ℕ) where
       let q = lane_state l s in
       let all : octets ≡ [] = sym is ∙ none_left g.zxe f q.position s.left s.zeros (omega (arith, i.long)) (omega (arith, i.long, i.room)) (omega (arith, i.long, i.room)) in
       rw (all, add-one (next_calls cs)) (ap (λ (os : List Out). closes l ∷ os) (sym (take-nil (next_calls cs))))
-  one-call octets w cs s st (cuts short e urgent k) i is area ih agrees ready none = absurd (omega (arith, i.line.free e urgent.1, urgent.2))
-  one-call octets w cs s st (warns short e urgent k) i is area ih agrees ready none = absurd (omega (arith, i.line.free e urgent.1, urgent.2))
+  one-call octets w cs s st (cuts short e pre urgent k) i is area ih agrees ready none = absurd (omega (arith, i.line.free e pre))
+  one-call octets w cs s st (warns short e pre urgent k) i is area ih agrees ready none = absurd (omega (arith, i.line.free e pre))
   one-call octets w cs s st (goes x pos n z short v free) i is area ih agrees ready none =
       let q = lane_state l s in
       let m = moved l (record { length = q.length; position = pos }) n z s in
@@ -286,13 +282,13 @@ module _ (g : Agreed) (l : Lane) (f : List ℕ) where
       let v = put_keeps g l k f w p i a (λ q r pre. none-high k p _ (free q pre) r) in
       along cs _ octets v.0 (v.1 ∙ is) (λ q pre. none_after (same_lane high k && true) p _ (free q pre)))
       none
-  along (next_octet_by gs ∷ cs) w octets i is none =
+  along (next_octet ∷ cs) w octets i is none =
       let e = w.end in
       let s = e.state in
-      through g l f gs octets w cs i.agrees i.ready none
+      through g l f octets w cs i.agrees i.ready none
       (λ st t.
       let way = goes_on g s.low s.high s.left s.zeros s.settings e.low e.high l s.on s.suspended s.cut st t i.line.on i.line.cut in
-      one-call g l f octets w cs s st (subst (λ (a : List ℕ). Way g gs.spared l s (with_phantom a) st) i.area way) (facts g l f e i) is i.area (along cs))
+      one-call g l f octets w cs s st (subst (λ (a : List ℕ). Way g l s (with_phantom a) st) i.area way) (facts g l f e i) is i.area (along cs))
 
 -- ---- from the first
 
@@ -302,7 +298,7 @@ lane-same high o s = refl
 
 pub sent-uninterrupted : SentUninterrupted
 unfolding ahead next_calls loaded_into
-sent-uninterrupted gs l w r b calls none =
+sent-uninterrupted l w r b calls none =
     let e = w.end in
     let s = e.state in
     let g = agreed s.settings in
@@ -321,11 +317,11 @@ sent-uninterrupted gs l w r b calls none =
     } in
     let is : ahead g l f (with_line (sending l) s) ≡ octets =
     rw same (no-data g.zxe f q.position s.left s.zeros 0 line.0 (omega (arith, b.start, line.1)) ∙ sym (frame-sent g.zxe f)) in
-    through g l f gs octets w calls refl r none
+    through g l f octets w calls refl r none
     (λ st t.
     one-call g l f octets w calls (with_line (sending l) s) st
     (goes_first g s.low s.high s.left s.zeros s.settings e.low e.high l s.on s.suspended s.cut st t b.free line.2
-    (ltb-true 0 q.length b.holds) b.high_empty b.not_suspended b.not_ahead)
+    (ltb-true 0 q.length b.holds) b.high_empty b.not_suspended)
     begins is (rw same) (along g l f calls))
 
 pub rest-uninterrupted : RestUninterrupted

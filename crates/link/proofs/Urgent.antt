@@ -12,9 +12,9 @@ use lib.Dec.{ltb}
 use lib.ListN.{replicate}
 use Rattle.link.specs.Agreed.{Settings, Agreed, agreed}
 use Rattle.link.specs.Answers.{done}
-use Rattle.link.specs.Sender.{Lane, low, high, OnLine, no_lane, sending, LaneState, Sender, Out, closes, breaks_off, sends, sends_nothing, refuses, Guards, Step, lane_d, load, next_by, next, put_frame, no_guards}
+use Rattle.link.specs.Sender.{Lane, low, high, OnLine, no_lane, sending, LaneState, Sender, Out, closes, breaks_off, sends, sends_nothing, refuses, Step, lane_d, load, next, put_frame}
 use Rattle.link.specs.SenderParts.{SenderReady}
-use Rattle.link.specs.Runs.{Station, Written, SenderCall, loading, next_octet_by, next_octet, writes, written, sent_by, is_of, loaded_by, after_load, after_next_by, after_next}
+use Rattle.link.specs.Runs.{Station, Written, SenderCall, loading, next_octet, writes, written, sent_by, is_of, loaded_by, after_load, after_next}
 use Rattle.link.specs.Progress.{broken_off_after, OnlyHighUntilD1, UrgentFirst}
 use Rattle.link.proofs.Tests.{if-so, if-not, true-false, false-true}
 use Rattle.link.proofs.Way.{Way, ends, cuts, warns, goes, sender, Turn, cut-due, idles, resumes-low, begins-high, begins-low, high-on, low-on, line-free, not-high, by_next}
@@ -25,20 +25,20 @@ use Rattle.link.proofs.Progress.{unrefused, by_turn, ready_on, ready-put}
 
 -- ---- with the line free
 
-way-high : {sp : Bool} (g : Agreed) (s : Sender) (d : List ℕ) (st : Step) → Way g sp high s d st → is_of high st.out ≡ true
+way-high : (g : Agreed) (s : Sender) (d : List ℕ) (st : Step) → Way g high s d st → is_of high st.out ≡ true
 way-high g s d st (ends over) = refl
-way-high g s d st (cuts short e urgent f) = bounds.low-high e
-way-high g s d st (warns short e urgent f) = bounds.low-high e
+way-high g s d st (cuts short e pre urgent f) = bounds.low-high e
+way-high g s d st (warns short e pre urgent f) = bounds.low-high e
 way-high g s d st (goes x pos n z short v free) = refl
 
 module _ (g : Agreed) (ql qh : LaneState) (n z : ℕ) (t : Settings) (al ah : List ℕ) where
-  turn-free : (o : OnLine) (u c : Bool) (st : Step) → Turn g no_guards ql qh n z t al ah o u c st → bounds.Bounds g (sender ql qh n z o u c t) → o ≡ no_lane → 0 < qh.length
+  turn-free : (o : OnLine) (u c : Bool) (st : Step) → Turn g ql qh n z t al ah o u c st → bounds.Bounds g (sender ql qh n z o u c t) → o ≡ no_lane → 0 < qh.length
       → is_of high st.out ≡ true
   turn-free no_lane u c st cut-due b e h = true-false b.line.2
   turn-free (sending l) u c st cut-due b e h = line-free l e
   turn-free o u c st (idles i j) b e h = absurd (omega arith)
-  turn-free o u c st (resumes-low i) b e h = absurd (omega (arith, i refl))
-  turn-free o u c st (begins-high a j w) b e h = way-high g _ _ st w
+  turn-free o u c st (resumes-low i j) b e h = absurd (omega arith)
+  turn-free o u c st (begins-high j w) b e h = way-high g _ _ st w
   turn-free o u c st (begins-low i j w) b e h = absurd (omega arith)
   turn-free o u c st (high-on w) b e h = line-free high e
   turn-free o u c st (low-on w) b e h = line-free low e
@@ -46,19 +46,19 @@ module _ (g : Agreed) (ql qh : LaneState) (n z : ℕ) (t : Settings) (al ah : Li
 -- ---- with low on the line
 
 module _ (g : Agreed) (ql qh : LaneState) (n z : ℕ) (t : Settings) (al ah : List ℕ) (pre : g.pre ≡ true) (h : 0 < qh.length) (short : ql.position ≤ ql.length) where
-  way-gives : (u : Bool) (d : List ℕ) (st : Step) → Way g false low (sender ql qh n z (sending low) u false t) d st
+  way-gives : (u : Bool) (d : List ℕ) (st : Step) → Way g low (sender ql qh n z (sending low) u false t) d st
       → st.out ≡ cond (ltb 0 n) breaks_off (sends low 0x02)
   way-gives u d st (ends over) = absurd (omega arith)
-  way-gives u d st (cuts k e urgent f) = sym (if-so _ _ _ (lt-ltb 0 n f))
-  way-gives u d st (warns k e urgent f) = sym (if-not _ _ _ (le-ltb 0 n (omega arith)))
-  way-gives u d st (goes x pos n' z' k v free) = absurd (omega (arith, free refl refl pre))
+  way-gives u d st (cuts k e p urgent f) = sym (if-so _ _ _ (lt-ltb 0 n f))
+  way-gives u d st (warns k e p urgent f) = sym (if-not _ _ _ (le-ltb 0 n (omega arith)))
+  way-gives u d st (goes x pos n' z' k v free) = absurd (omega (arith, free refl pre))
 
-  turn-gives : (o : OnLine) (u c : Bool) (st : Step) → Turn g no_guards ql qh n z t al ah o u c st → o ≡ sending low → c ≡ false
+  turn-gives : (o : OnLine) (u c : Bool) (st : Step) → Turn g ql qh n z t al ah o u c st → o ≡ sending low → c ≡ false
       → st.out ≡ cond (ltb 0 n) breaks_off (sends low 0x02)
   turn-gives o u c st cut-due e f = true-false f
   turn-gives o u c st (idles i j) e f = absurd (omega arith)
-  turn-gives o u c st (resumes-low i) e f = absurd (omega (arith, i refl))
-  turn-gives o u c st (begins-high a j w) e f = line-free low (sym e)
+  turn-gives o u c st (resumes-low i j) e f = absurd (omega arith)
+  turn-gives o u c st (begins-high j w) e f = line-free low (sym e)
   turn-gives o u c st (begins-low i j w) e f = absurd (omega arith)
   turn-gives o u c st (high-on w) e f = not-high e
   turn-gives o u c st (low-on w) e f = way-gives u (lane_d ql al) st w
@@ -78,20 +78,20 @@ record Nearer (n : ℕ) (s : Sender) : Type 0 where
   waits : 0 < s.high.length
 
 module _ (g : Agreed) (ql qh : LaneState) (n z : ℕ) (t : Settings) (al ah : List ℕ) (pre : g.pre ≡ true) (h : 0 < qh.length) where
-  way-nearer : (st : Step) → Way g false low (sender ql qh n z (sending low) false false t) (lane_d ql al) st → Nearer 3 st.state
+  way-nearer : (st : Step) → Way g low (sender ql qh n z (sending low) false false t) (lane_d ql al) st → Nearer 3 st.state
   way-nearer st (ends over) = record { nearer = omega arith; before = omega arith; waits = h }
-  way-nearer st (cuts short e urgent f) = record { nearer = omega arith; before = omega arith; waits = h }
-  way-nearer st (warns short e urgent f) = record { nearer = omega arith; before = omega arith; waits = h }
-  way-nearer st (goes x pos n' z' short v free) = absurd (omega (arith, free refl refl pre))
+  way-nearer st (cuts short e p urgent f) = record { nearer = omega arith; before = omega arith; waits = h }
+  way-nearer st (warns short e p urgent f) = record { nearer = omega arith; before = omega arith; waits = h }
+  way-nearer st (goes x pos n' z' short v free) = absurd (omega (arith, free refl pre))
 
-  turn-nearer : (o : OnLine) (u c : Bool) (st : Step) → Turn g no_guards ql qh n z t al ah o u c st → bounds.Bounds g (sender ql qh n z o u c t) → 0 < away o c
+  turn-nearer : (o : OnLine) (u c : Bool) (st : Step) → Turn g ql qh n z t al ah o u c st → bounds.Bounds g (sender ql qh n z o u c t) → 0 < away o c
       → (is_of high st.out ≡ true) ⊎ Nearer (away o c) st.state
   turn-nearer no_lane u c st cut-due b k = true-false b.line.2
   turn-nearer (sending high) u c st cut-due b k = true-false b.line.1
   turn-nearer (sending low) u c st cut-due b k = inr (record { nearer = omega arith; before = omega arith; waits = h })
   turn-nearer o u c st (idles i j) b k = absurd (omega arith)
-  turn-nearer o u c st (resumes-low i) b k = absurd (omega (arith, i refl))
-  turn-nearer o u c st (begins-high a j w) b k = inl (way-high g _ _ st w)
+  turn-nearer o u c st (resumes-low i j) b k = absurd (omega arith)
+  turn-nearer o u c st (begins-high j w) b k = inl (way-high g _ _ st w)
   turn-nearer o u c st (begins-low i j w) b k = absurd (omega arith)
   turn-nearer o u c st (high-on w) b k = inl (way-high g _ _ st w)
   turn-nearer o true c st (low-on w) b k = true-false b.line.1
@@ -118,7 +118,7 @@ writes_later (refuses n) w es m = m
 
 soon : (k : ℕ) (w : Station) → SenderReady w.end → (agreed w.end.state.settings).pre ≡ true → 0 < w.end.state.high.length
     → 0 < away w.end.state.on w.end.state.cut → away w.end.state.on w.end.state.cut ≤ k → HighIn (written w (replicate k next_octet))
-unfolding written after_next_by
+unfolding written after_next
 soon zero w r pre h i j = absurd (omega arith)
 soon (suc k) w r pre h i j =
     let e = w.end in
@@ -127,10 +127,10 @@ soon (suc k) w r pre h i j =
     ⊎_elim (λ q. writes-high (next e).out w _ q)
     (λ q.
     writes_later (next e).out w _
-    (soon k (after_next w) (ready_on no_guards w r)
-    (ap (λ (t : Settings). (agreed t).pre) (bounds.next-keeps (agreed s.settings) no_guards e refl u.bounds).settings ∙ pre)
+    (soon k (after_next w) (ready_on w r)
+    (ap (λ (t : Settings). (agreed t).pre) (bounds.next-keeps (agreed s.settings) e refl u.bounds).settings ∙ pre)
     q.waits q.before (omega (arith, q.nearer))))
-    (by_turn no_guards e r (λ st. (is_of high st.out ≡ true) ⊎ Nearer (away s.on s.cut) st.state)
+    (by_turn e r (λ st. (is_of high st.out ≡ true) ⊎ Nearer (away s.on s.cut) st.state)
     (λ st t.
     turn-nearer (agreed s.settings) s.low s.high s.left s.zeros s.settings e.low e.high pre h s.on s.suspended s.cut st t u.bounds i))
 
@@ -163,21 +163,21 @@ module _ (w : Station) (r : SenderReady w.end) (pre : (agreed w.end.state.settin
 
 -- ---- without PRE nothing is broken off
 
-way-whole : {sp : Bool} (g : Agreed) (l : Lane) (s : Sender) (d : List ℕ) (st : Step) → g.pre ≡ false → Way g sp l s d st → st.out ≡ breaks_off → ⊥
+way-whole : (g : Agreed) (l : Lane) (s : Sender) (d : List ℕ) (st : Step) → g.pre ≡ false → Way g l s d st → st.out ≡ breaks_off → ⊥
 way-whole g l s d st off (ends over) q = let z : ◌≡◌ {A = ℕ} 0 1 = cc in omega arith
-way-whole g l s d st off (cuts short e urgent f) q = true-false (sym urgent.1 ∙ off)
-way-whole g l s d st off (warns short e urgent f) q = true-false (sym urgent.1 ∙ off)
+way-whole g l s d st off (cuts short e pre urgent f) q = true-false (sym pre ∙ off)
+way-whole g l s d st off (warns short e pre urgent f) q = true-false (sym pre ∙ off)
 way-whole g l s d st off (goes x pos n z short v free) q = let i : ◌≡◌ {A = ℕ} 0 1 = cc in omega arith
 
 module _ (g : Agreed) (ql qh : LaneState) (n z : ℕ) (t : Settings) (al ah : List ℕ) (bl bh : Option (List ℕ)) where
-  turn-whole : {gs : Guards} (o : OnLine) (u c : Bool) (st : Step) → Turn g gs ql qh n z t al ah o u c st → Sound g (station (sender ql qh n z o u c t) al ah bl bh) → g.pre ≡ false
+  turn-whole : (o : OnLine) (u c : Bool) (st : Step) → Turn g ql qh n z t al ah o u c st → Sound g (station (sender ql qh n z o u c t) al ah bl bh) → g.pre ≡ false
       → st.out ≡ breaks_off → ⊥
   turn-whole no_lane u c st cut-due i off q = true-false i.in-bounds.line.2
   turn-whole (sending high) u c st cut-due i off q = true-false i.in-bounds.line.1
   turn-whole (sending low) u c st cut-due i off q = true-false (sym i.line.0.pre ∙ off)
   turn-whole o u c st (idles f h) i off q = let j : ◌≡◌ {A = ℕ} 0 1 = cc in omega arith
-  turn-whole o u c st (resumes-low f) i off q = let j : ◌≡◌ {A = ℕ} 0 1 = cc in omega arith
-  turn-whole o u c st (begins-high a h w) i off q = way-whole g high _ _ st off w q
+  turn-whole o u c st (resumes-low f h) i off q = let j : ◌≡◌ {A = ℕ} 0 1 = cc in omega arith
+  turn-whole o u c st (begins-high h w) i off q = way-whole g high _ _ st off w q
   turn-whole o u c st (begins-low f h w) i off q = way-whole g low _ _ st off w q
   turn-whole o u c st (high-on w) i off q = way-whole g high _ _ st off w q
   turn-whole o u c st (low-on w) i off q = way-whole g low _ _ st off w q
@@ -199,14 +199,14 @@ whole : (g : Agreed) (w : Station) (cs : List SenderCall) → Sound g w → g.pr
 unfolding written
 whole g w [] i off = λ e m q. Memᴰ.not-nil m
 whole g w (loading l p ∷ cs) i off = whole g (after_load l p w) cs (sound-load g l p w i) off
-whole g w (next_octet_by gs ∷ cs) i off =
+whole g w (next_octet ∷ cs) i off =
     let e = w.end in
     let s = e.state in
-    writes-whole (next_by gs e).out w (written (after_next_by gs w) cs)
-    (by_next g gs e i.agrees (λ st. st.out ≡ breaks_off → ⊥) (λ n q. let j : ◌≡◌ {A = ℕ} 0 1 = cc in omega arith)
+    writes-whole (next e).out w (written (after_next w) cs)
+    (by_next g e i.agrees (λ st. st.out ≡ breaks_off → ⊥) (λ n q. let j : ◌≡◌ {A = ℕ} 0 1 = cc in omega arith)
     (λ st t.
     turn-whole g s.low s.high s.left s.zeros s.settings e.low e.high w.lanes.low w.lanes.high s.on s.suspended s.cut st t i off))
-    (whole g (after_next_by gs w) cs (sound-next g gs w i) off)
+    (whole g (after_next w) cs (sound-next g w i) off)
 
 -- ---- from a break-off until D1
 
@@ -224,26 +224,26 @@ record Until (b : Bool) (st : Step) : Type 0 where
   still : broken_off_after b st.out ≡ true → st.state.suspended ≡ true
 
 module _ (g : Agreed) (ql qh : LaneState) (n z : ℕ) (t : Settings) (b : Bool) where
-  high-until : {sp : Bool} (u : Bool) (d : List ℕ) → (b ≡ true → u ≡ true) → (st : Step) → Way g sp high (sender ql qh n z (sending high) u false t) d st → Until b st
+  high-until : (u : Bool) (d : List ℕ) → (b ≡ true → u ≡ true) → (st : Step) → Way g high (sender ql qh n z (sending high) u false t) d st → Until b st
   high-until u d h st (ends over) = record { only = λ _. inl refl; still = h }
-  high-until u d h st (cuts short e urgent f) = bounds.low-high e
-  high-until u d h st (warns short e urgent f) = bounds.low-high e
+  high-until u d h st (cuts short e pre urgent f) = bounds.low-high e
+  high-until u d h st (warns short e pre urgent f) = bounds.low-high e
   high-until u d h st (goes x pos n' z' short v free) = record { only = λ _. inl refl; still = h }
 
-  low-until : {sp : Bool} (d : List ℕ) → (b ≡ true → false ≡ true) → (st : Step) → Way g sp low (sender ql qh n z (sending low) false false t) d st → Until b st
+  low-until : (d : List ℕ) → (b ≡ true → false ≡ true) → (st : Step) → Way g low (sender ql qh n z (sending low) false false t) d st → Until b st
   low-until d h st (ends over) = record { only = λ q. false-true (h q); still = h }
-  low-until d h st (cuts short e urgent f) = record { only = λ q. false-true (h q); still = λ _. refl }
-  low-until d h st (warns short e urgent f) = record { only = λ q. false-true (h q); still = λ q. false-true q }
+  low-until d h st (cuts short e pre urgent f) = record { only = λ q. false-true (h q); still = λ _. refl }
+  low-until d h st (warns short e pre urgent f) = record { only = λ q. false-true (h q); still = λ q. false-true q }
   low-until d h st (goes x pos n' z' short v free) = record { only = λ q. false-true (h q); still = λ q. false-true q }
 
-  turn-until : {gs : Guards} (al ah : List ℕ) (o : OnLine) (u c : Bool) (st : Step) → Turn g gs ql qh n z t al ah o u c st → bounds.Bounds g (sender ql qh n z o u c t)
+  turn-until : (al ah : List ℕ) (o : OnLine) (u c : Bool) (st : Step) → Turn g ql qh n z t al ah o u c st → bounds.Bounds g (sender ql qh n z o u c t)
       → (b ≡ true → u ≡ true) → Until b st
   turn-until al ah no_lane u c st cut-due k h = true-false k.line.2
   turn-until al ah (sending high) u c st cut-due k h = true-false k.line.1
   turn-until al ah (sending low) u c st cut-due k h = record { only = λ q. false-true (sym k.line.1 ∙ h q); still = λ _. refl }
   turn-until al ah o u c st (idles i j) k h = record { only = λ _. tt; still = h }
-  turn-until al ah o u c st (resumes-low i) k h = record { only = λ _. inr refl; still = λ q. false-true q }
-  turn-until al ah o u c st (begins-high a j w) k h = high-until u (lane_d qh ah) h st w
+  turn-until al ah o u c st (resumes-low i j) k h = record { only = λ _. inr refl; still = λ q. false-true q }
+  turn-until al ah o u c st (begins-high j w) k h = high-until u (lane_d qh ah) h st w
   turn-until al ah o u c st (begins-low i j w) k h = low-until (lane_d ql al) h st w
   turn-until al ah o u c st (high-on w) k h = high-until u (lane_d qh ah) h st w
   turn-until al ah o true c st (low-on w) k h = true-false k.line.1
@@ -262,18 +262,18 @@ loaded-until g low p w ag = by-load g low p w (λ v. v.end.state.suspended ≡ w
 loaded-until g high p w ag = by-load g high p w (λ v. v.end.state.suspended ≡ w.end.state.suspended) ag refl (λ _. refl)
 
 until : (g : Agreed) (b : Bool) (w : Station) (cs : List SenderCall) → Sound g w → (b ≡ true → w.end.state.suspended ≡ true) → OnlyHighUntilD1 b (written w cs)
-unfolding written after_next_by
+unfolding written after_next
 until g b w [] i h = tt
 until g b w (loading l p ∷ cs) i h = until g b (after_load l p w) cs (sound-load g l p w i) (λ q. loaded-until g l p w i.agrees ∙ h q)
-until g b w (next_octet_by gs ∷ cs) i h =
+until g b w (next_octet ∷ cs) i h =
     let e = w.end in
     let s = e.state in
-    let k : Until b (next_by gs e) =
-    by_next g gs e i.agrees (Until b) (λ n. record { only = λ _. tt; still = h })
+    let k : Until b (next e) =
+    by_next g e i.agrees (Until b) (λ n. record { only = λ _. tt; still = h })
     (λ st t.
     turn-until g s.low s.high s.left s.zeros s.settings b e.low e.high s.on s.suspended s.cut st t i.in-bounds h) in
-    writes-until b (next_by gs e).out w (written (after_next_by gs w) cs) k.only
-    (until g (broken_off_after b (next_by gs e).out) (after_next_by gs w) cs (sound-next g gs w i) k.still)
+    writes-until b (next e).out w (written (after_next w) cs) k.only
+    (until g (broken_off_after b (next e).out) (after_next w) cs (sound-next g w i) k.still)
 
 pub urgent-first : UrgentFirst
 urgent-first =
@@ -281,14 +281,14 @@ urgent-first =
       free =
           λ e r off h.
           let s = e.state in
-          by_turn no_guards e r (λ st. is_of high st.out ≡ true)
+          by_turn e r (λ st. is_of high st.out ≡ true)
           (λ st t.
           turn-free (agreed s.settings) s.low s.high s.left s.zeros s.settings e.low e.high s.on s.suspended s.cut st t
           (unrefused e r).bounds off (ltb-true 0 s.high.length h));
       at_once =
           λ e r pre on whole h short.
           let s = e.state in
-          by_turn no_guards e r (λ st. st.out ≡ cond (ltb 0 s.left) breaks_off (sends low 0x02))
+          by_turn e r (λ st. st.out ≡ cond (ltb 0 s.left) breaks_off (sends low 0x02))
           (λ st t.
           turn-gives (agreed s.settings) s.low s.high s.left s.zeros s.settings e.low e.high pre (ltb-true 0 s.high.length h) short
           s.on s.suspended s.cut st t on whole);

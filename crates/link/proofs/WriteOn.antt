@@ -13,9 +13,9 @@ use Rattle.cobs.proofs.Exchange.{no_flag}
 use Rattle.cobs.proofs.Tests.{branch}
 use Rattle.link.specs.Agreed.{agreed, largest_frame, most_decoded, valid}
 use Rattle.link.specs.Answers.{octet}
-use Rattle.link.specs.Sender.{Lane, low, high, sending, Sender, SenderEnd, Guards, Step, Next, lane_area, lane_state, in_bounds, with_block, position_up, step5_data, out_answer, next_by, next, seen, no_guards}
+use Rattle.link.specs.Sender.{Lane, low, high, sending, Sender, SenderEnd, Step, Next, lane_area, lane_state, in_bounds, with_block, position_up, step5_data, out_answer, next, seen}
 use Rattle.link.specs.SenderParts.{SenderReady}
-use Rattle.link.specs.Runs.{after_next_by}
+use Rattle.link.specs.Runs.{after_next}
 use Rattle.link.proofs.D as D
 use Rattle.link.proofs.Tests.{not-below, none-short}
 use Rattle.link.proofs.Progress.{ready_on}
@@ -23,9 +23,9 @@ use Rattle.link.proofs.sender.Bounds.{low-on, high-on, low-sends, high-sends}
 
 -- ---- a call that is answered by an octet was not refused
 
-pub ready-before : (gs : Guards) (e : SenderEnd) (x : ℕ) → octet x ≡ out_answer (next_by gs e).out → SenderReady e
-unfolding next_by
-ready-before gs e x =
+ready-before : (e : SenderEnd) (x : ℕ) → octet x ≡ out_answer (next e).out → SenderReady e
+unfolding next
+ready-before e x =
     let s = e.state in
     let m = largest_frame (agreed s.settings) in
     let P : Step → Type 0 = λ st. octet x ≡ out_answer st.out → SenderReady e in
@@ -38,10 +38,10 @@ ready-before gs e x =
 
 -- and the state after it is in bounds again
 pub octet-ready : (e : SenderEnd) (x : ℕ) (t : Sender) → record { answer = octet x; state = t } ≡ seen (next e) → SenderReady (record { state = t; low = e.low; high = e.high })
-unfolding after_next_by
+unfolding after_next
 octet-ready e x t p =
     subst (λ (u : Sender). SenderReady (record { state = u; low = e.low; high = e.high })) (sym (ap (λ (h : Next). h.state) p))
-    (ready_on no_guards (record { end = e; lanes = record { low = none; high = none } }) (ready-before no_guards e x (ap (λ (h : Next). h.answer) p)))
+    (ready_on (record { end = e; lanes = record { low = none; high = none } }) (ready-before e x (ap (λ (h : Next). h.answer) p)))
 
 -- ---- the stretch
 
@@ -71,13 +71,13 @@ module _ (n : ℕ) (e : SenderEnd) where
       let b = h.ready in
       let r = low-on s b.valid b.bounds e.low b.low h.on in
       let short = none-short _ _ _ (b.low, b.high) in
-      sym (ap seen (low-sends no_guards e b.valid short b.bounds (omega (arith, h.more)) h.on (h.alone refl))
+      sym (ap seen (low-sends e b.valid short b.bounds (omega (arith, h.more)) h.on (h.alone refl))
       ∙ data-sent low _ e.low (omega (arith, h.more)) (D.before s.low.length e.low s.low.position (omega (arith, h.more, r.in_d))))
   first high h =
       let b = h.ready in
       let r = high-on s b.valid b.bounds e.high b.high h.on in
       let short = none-short _ _ _ (b.low, b.high) in
-      sym (ap seen (high-sends no_guards e b.valid short b.bounds (omega (arith, h.more)) h.on)
+      sym (ap seen (high-sends e b.valid short b.bounds (omega (arith, h.more)) h.on)
       ∙ data-sent high _ e.high (omega (arith, h.more)) (D.before s.high.length e.high s.high.position (omega (arith, h.more, r.in_d))))
 
   -- the place is inside the area

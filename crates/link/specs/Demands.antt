@@ -6,12 +6,12 @@ use Rattle.fcs.specs.CheckSequence.{width, register, Burst}
 use Rattle.cobs.specs.CodeBlocks.{frame, with_phantom, flag, Block, AllAllowed, decoded_octets, line_octets}
 use Rattle.link.specs.Agreed.{Settings, agreed, valid, least_packet, largest_frame, most_decoded}
 use Rattle.link.specs.Answers.{Answer, octet, idle, quiet, held, refused}
-use Rattle.link.specs.Sender.{Lane, low, high, Sender, SenderEnd, Guards, out_answer, load, next_by, next}
+use Rattle.link.specs.Sender.{Lane, low, high, Sender, SenderEnd, out_answer, load, next}
 use Rattle.link.specs.Sender as sender
 use Rattle.link.specs.Receiver.{Fragment, nothing_held, holds, kept_off, cobs, plain, PlainReading, Receiver, ReceiverEnd, Receive, area_of, aside, carried, is_plain, put_back, receive}
 use Rattle.link.specs.Receiver as receiver
 use Rattle.link.specs.ReceiverParts.{ReceiverReady}
-use Rattle.link.specs.Runs.{SenderCall, loading, next_octet_by, next_octet, Station, fresh_station, after_next_by, run, sender_answers, loaded_into, Written, written, written_octets, sent_by, at_true, at_false, receives, received, packet_in, packets_in, refusals_in, under_way, left_aside, AllArrive, AllAsExpected, closed_packets}
+use Rattle.link.specs.Runs.{SenderCall, loading, next_octet, Station, fresh_station, after_next, run, sender_answers, loaded_into, Written, written, written_octets, sent_by, at_true, at_false, receives, received, packet_in, packets_in, refusals_in, under_way, left_aside, AllArrive, AllAsExpected, closed_packets}
 use Rattle.link.specs.Progress.{calls_to_empty}
 
 -- ---- in bounds
@@ -20,8 +20,8 @@ use Rattle.link.specs.Progress.{calls_to_empty}
 pub record KeepBounds : Type 0 where
   pub load : (l : Lane) (p : List ℕ) (s : Sender) (area : List ℕ) → sender.in_bounds (agreed s.settings) s ≡ true
       → sender.in_bounds (agreed (load l p s area).state.settings) (load l p s area).state ≡ true
-  pub next : (u : Guards) (e : SenderEnd) → sender.in_bounds (agreed e.state.settings) e.state ≡ true
-      → sender.in_bounds (agreed (next_by u e).state.settings) (next_by u e).state ≡ true
+  pub next : (e : SenderEnd) → sender.in_bounds (agreed e.state.settings) e.state ≡ true
+      → sender.in_bounds (agreed (next e).state.settings) (next e).state ≡ true
   pub receive : (e : ReceiverEnd) (x : ℕ) → receiver.in_bounds (agreed e.state.settings) e.state ≡ true
       → receiver.in_bounds (agreed (receive e x).after.state.settings) (receive e x).after.state ≡ true
 
@@ -44,7 +44,7 @@ pub record PacketsComeThrough (replaces : Bool) (es : List Written) (hs : List R
   pub packets : packets_in hs ≡ closed_packets es
   pub refusals : refusals_in hs ≡ []
 
--- Demand 2, any list of calls, those of next octet by any guards: between fresh ends of the same settings, octet, width and limit, with plain reading off or on, every closed packet is reported at its closing
+-- Demand 2, any list of calls: between fresh ends of the same settings, octet, width and limit, with plain reading off or on, every closed packet is reported at its closing
 -- flag, in order, nothing is refused, and no fragment takes another's place. No octet and no report is left out.
 abbrev pub SoundLine : Settings → PlainReading → Type 0
 SoundLine settings reading =
@@ -62,7 +62,7 @@ pub record LongEnough (settings : Settings) (low_area high_area first_area secon
   pub first : most_decoded (agreed settings) ≤ length first_area
   pub second : most_decoded (agreed settings) ≤ length second_area
 
--- Demand 2, nothing loaded is lost, nothing is late: after any list of calls, so many of document 01's next-octet calls as `calls_to_empty` says, or more.
+-- Demand 2, nothing loaded is lost, nothing is late: after any list of calls, so many next-octet calls as `calls_to_empty` says, or more.
 -- Then the sender is idle; and the packets reported at the octets of either lane are those that were loaded into it, in order.
 abbrev pub NothingLoadedIsLost : Settings → PlainReading → Type 0
 NothingLoadedIsLost settings reading =
@@ -130,7 +130,6 @@ frame_began_ff at_start (x ∷ xs) = at_start && eqb x 0xFF || frame_began_ff (e
 --   plain reading is off, or it is on and no frame of the noise has FF for its first octet
 --   every list of load and next-octet calls from a fresh sender, refused ones included, and every flag written: `before`, the call that
 --   writes the chosen flag, `after`
---   every call of next octet by any guards (u: those of the call that writes the flag): document 01's sender and the dispatcher are instances
 --   any octets on the line before that flag: `noise`
 --   the flag and all octets written after it arrive, once each and in order: the receiver's calls are for the flag and for those of `es`
 --   nobody else writes state or areas: each call has them as the call before left them
@@ -144,15 +143,14 @@ Demand3 settings reading =
     → most_decoded (agreed settings) ≤ length first
     → most_decoded (agreed settings) ≤ length second
     → (before after : List SenderCall)
-    → (u : Guards)
     → (noise : List ℕ)
     → (receiver.is_off (receiver.opened_receiver settings reading).mode ≡ false → frame_began_ff true noise ≡ false)
     → (let v = fresh_station settings low high in
     let w = run v before in
     let e = (receive (received (fresh_receiver settings reading first second) noise) flag).after in
-    let es = written (after_next_by u w) after in
-    out_answer (next_by u w.end).out ≡ octet flag
-    → AfterChosenFlag (written v (before ++ (next_octet_by u ∷ []))) (after_next_by u w) e es (receives e (written_octets es)))
+    let es = written (after_next w) after in
+    out_answer (next w.end).out ≡ octet flag
+    → AfterChosenFlag (written v (before ++ (next_octet ∷ []))) (after_next w) e es (receives e (written_octets es)))
 
 -- ---- what the reports depend on
 

@@ -1,12 +1,12 @@
--- What holds of every single call (docs/DEMANDS.md; document 01, "Sender" and "Receiver"; document 02, slips 4, 5, 8 and 10): what it leaves as
--- it was, and what becomes of what is held. The steps say it too, each for itself; here it is said of the whole call, of next octet by any guards.
+-- What holds of every single call (docs/DEMANDS.md; document 01, "Sender" and "Receiver"; document 02, slips 4, 5 and 8): what it leaves as it was, and
+-- what becomes of what is held. The steps say it too, each for itself; here it is said of the whole call.
 use Rattle.std.specs.Prelude.{Bool, true, false, not, ◌&&◌, List, ◌⊎◌, ◌≡◌, ℕ, ◌+◌, ◌≤◌, ◌<◌, eqb, length, take, drop}
 use Rattle.fcs.specs.Notation.{if◌then◌else◌}
 use Rattle.fcs.specs.CheckSequence.{register, good}
 use Rattle.cobs.specs.CodeBlocks.{frame, flag, from_line}
 use Rattle.link.specs.Agreed.{Settings, Agreed, agreed, valid_width, valid_limit, valid, least_packet, largest_frame, most_decoded}
 use Rattle.link.specs.Answers.{Answer, done, octet, idle, quiet, packet, held, refused}
-use Rattle.link.specs.Sender.{Lane, no_lane, Sender, SenderEnd, Load, Guards, closes, empty_lane, opened_sender, open_sender, lane_state, with_lane, out_answer, load, next_by}
+use Rattle.link.specs.Sender.{Lane, no_lane, Sender, SenderEnd, Load, closes, empty_lane, opened_sender, open_sender, lane_state, with_lane, out_answer, load, next}
 use Rattle.link.specs.Receiver.{Fragment, nothing_held, holds, no_block, kept_off, cobs, plain, PlainReading, Receiver, ReceiverEnd, Receive, out_of_frame, opened_receiver, open_receiver, is_held, is_plain, begins_plain, area_of, aside, receive}
 use Rattle.link.specs.Sender as sender
 use Rattle.link.specs.Receiver as receiver
@@ -24,7 +24,7 @@ pub record ValidFirst : Type 0 where
   pub receiver_width : (settings : Settings) (reading : PlainReading) → valid_limit (agreed settings) ≡ true → valid_width (agreed settings) ≡ false
       → open_receiver settings reading ≡ receiver.refused_opening 3
   pub load : (l : Lane) (p : List ℕ) (s : Sender) (area : List ℕ) → valid (agreed s.settings) ≡ false → (load l p s area).answer ≡ refused 3
-  pub next : (u : Guards) (e : SenderEnd) → valid (agreed e.state.settings) ≡ false → out_answer (next_by u e).out ≡ refused 3
+  pub next : (e : SenderEnd) → valid (agreed e.state.settings) ≡ false → out_answer (next e).out ≡ refused 3
   pub receive : (e : ReceiverEnd) (x : ℕ) → valid (agreed e.state.settings) ≡ false → (receive e x).report ≡ refused 3
   pub sender_opens : (settings : Settings) → valid (agreed settings) ≡ true → open_sender settings ≡ sender.opened (opened_sender settings)
   pub receiver_opens : (settings : Settings) (reading : PlainReading) → valid (agreed settings) ≡ true
@@ -45,14 +45,14 @@ pub record AreasThenState : Type 0 where
       → sender.in_bounds (agreed s.settings) s ≡ true
       → 0 < (lane_state l s).length
       → (load l p s area).answer ≡ refused 4
-  pub next_short : (u : Guards) (e : SenderEnd) → valid (agreed e.state.settings) ≡ true
+  pub next_short : (e : SenderEnd) → valid (agreed e.state.settings) ≡ true
       → (length e.low < largest_frame (agreed e.state.settings)) ⊎ (length e.high < largest_frame (agreed e.state.settings))
-      → out_answer (next_by u e).out ≡ refused 2
-  pub next_state : (u : Guards) (e : SenderEnd) → valid (agreed e.state.settings) ≡ true
+      → out_answer (next e).out ≡ refused 2
+  pub next_state : (e : SenderEnd) → valid (agreed e.state.settings) ≡ true
       → largest_frame (agreed e.state.settings) ≤ length e.low
       → largest_frame (agreed e.state.settings) ≤ length e.high
       → sender.in_bounds (agreed e.state.settings) e.state ≡ false
-      → out_answer (next_by u e).out ≡ refused 3
+      → out_answer (next e).out ≡ refused 3
   pub receive_short : (e : ReceiverEnd) (x : ℕ) → valid (agreed e.state.settings) ≡ true
       → (length e.first < most_decoded (agreed e.state.settings)) ⊎ (length e.second < most_decoded (agreed e.state.settings))
       → (receive e x).report ≡ refused 2
@@ -68,19 +68,19 @@ pub record AreasThenState : Type 0 where
 pub record RefusedChangesNothing : Type 0 where
   pub load : (l : Lane) (p : List ℕ) (s : Sender) (area : List ℕ) (n : ℕ) → (load l p s area).answer ≡ refused n
       → ((load l p s area).state ≡ s) × ((load l p s area).area ≡ area)
-  pub next : (u : Guards) (e : SenderEnd) (n : ℕ) → out_answer (next_by u e).out ≡ refused n → (next_by u e).state ≡ e.state
+  pub next : (e : SenderEnd) (n : ℕ) → out_answer (next e).out ≡ refused n → (next e).state ≡ e.state
   pub receive : (e : ReceiverEnd) (x n : ℕ) → n < 5 → (receive e x).report ≡ refused n → (receive e x).after ≡ e
 
 -- nor does a call that answers Idle
 abbrev pub IdleChangesNothing : Type 0
-IdleChangesNothing = (u : Guards) (e : SenderEnd) → out_answer (next_by u e).out ≡ idle → (next_by u e).state ≡ e.state
+IdleChangesNothing = (e : SenderEnd) → out_answer (next e).out ≡ idle → (next e).state ≡ e.state
 
 -- and every call keeps the settings, the octet with all its bits; an end is opened with them
 pub record SettingsStay : Type 0 where
   pub opened_sender : (settings : Settings) → (opened_sender settings).settings ≡ settings
   pub opened_receiver : (settings : Settings) (reading : PlainReading) → (opened_receiver settings reading).settings ≡ settings
   pub load : (l : Lane) (p : List ℕ) (s : Sender) (area : List ℕ) → (load l p s area).state.settings ≡ s.settings
-  pub next : (u : Guards) (e : SenderEnd) → (next_by u e).state.settings ≡ e.state.settings
+  pub next : (e : SenderEnd) → (next e).state.settings ≡ e.state.settings
   pub receive : (e : ReceiverEnd) (x : ℕ) → (receive e x).after.state.settings ≡ e.state.settings
 
 -- ---- what is read (slip 5)
@@ -102,7 +102,7 @@ FiveIfOff = (e : ReceiverEnd) (x : ℕ) → (receive e x).report ≡ refused 5 �
 
 -- leaves its lane as it was opened, and no lane on the line
 abbrev pub ClosedIsEmpty : Type 0
-ClosedIsEmpty = (u : Guards) (e : SenderEnd) (l : Lane) → (next_by u e).out ≡ closes l → (lane_state l (next_by u e).state ≡ empty_lane) × ((next_by u e).state.on ≡ no_lane)
+ClosedIsEmpty = (e : SenderEnd) (l : Lane) → (next e).out ≡ closes l → (lane_state l (next e).state ≡ empty_lane) × ((next e).state.on ≡ no_lane)
 
 -- ---- a load that is Done
 

@@ -6,9 +6,9 @@ use Rattle.fcs.specs.Notation.{if◌then◌else◌}
 use Rattle.cobs.specs.CodeBlocks.{frame, to_line, line_octets, blocks, uninterrupted}
 use Rattle.link.specs.Agreed.{Settings, agreed, least_packet, largest_frame, valid}
 use Rattle.link.specs.Answers.{done, idle}
-use Rattle.link.specs.Sender.{Lane, low, high, no_lane, sending, Sender, SenderEnd, Guards, Out, closes, breaks_off, sends, sends_nothing, refuses, out_answer, lane_state, lane_area, lane_d, loaded, load, next_by, next}
+use Rattle.link.specs.Sender.{Lane, low, high, no_lane, sending, Sender, SenderEnd, Out, closes, breaks_off, sends, sends_nothing, refuses, out_answer, lane_state, lane_area, lane_d, loaded, load, next}
 use Rattle.link.specs.SenderParts.{SenderReady}
-use Rattle.link.specs.Runs.{SenderCall, loading, next_octet_by, next_octet, Station, fresh_station, after_load, after_next_by, run, loaded_into, Written, written, is_of, sent_by}
+use Rattle.link.specs.Runs.{SenderCall, loading, next_octet, Station, fresh_station, after_load, after_next, run, loaded_into, Written, written, is_of, sent_by}
 
 -- ---- never idle with work to do
 
@@ -16,28 +16,26 @@ pub record BothEmpty (s : Sender) : Type 0 where
   pub low : s.low.length ≡ 0
   pub high : s.high.length ≡ 0
 
--- of any state in bounds, with areas long enough: next octet, by any guards, answers Idle exactly if both lanes are empty
+-- of any state in bounds, with areas long enough: next octet answers Idle exactly if both lanes are empty
 pub record IdleIfEmpty : Type 0 where
-  pub only : (u : Guards) (e : SenderEnd) → SenderReady e → out_answer (next_by u e).out ≡ idle → BothEmpty e.state
-  pub always : (u : Guards) (e : SenderEnd) → SenderReady e → BothEmpty e.state → out_answer (next_by u e).out ≡ idle
+  pub only : (e : SenderEnd) → SenderReady e → out_answer (next e).out ≡ idle → BothEmpty e.state
+  pub always : (e : SenderEnd) → SenderReady e → BothEmpty e.state → out_answer (next e).out ≡ idle
 
 -- ---- the octets of a frame that nothing interrupts
 
--- The lane's frame is next, from its beginning: no lane is on the line; where it is low's, high is empty and low not suspended; and no suspended
--- low goes before it by the guard.
-pub record BeginsNext (u : Guards) (l : Lane) (s : Sender) : Type 0 where
+-- The lane's frame is next, from its beginning: no lane is on the line, and where it is low's, high is empty and low not suspended.
+pub record BeginsNext (l : Lane) (s : Sender) : Type 0 where
   pub free : s.on ≡ no_lane
   pub start : (lane_state l s).position ≡ 0
   pub holds : loaded (lane_state l s) ≡ true
   pub high_empty : l ≡ low → s.high.length ≡ 0
   pub not_suspended : l ≡ low → s.suspended ≡ false
-  pub not_ahead : (u.ahead && s.suspended) ≡ false
 
 -- how many calls of a list are of next octet
 unfoldable pub next_calls : List SenderCall → ℕ
 next_calls [] = 0
 next_calls (loading l p ∷ cs) = next_calls cs
-next_calls (next_octet_by u ∷ cs) = next_calls cs + 1
+next_calls (next_octet ∷ cs) = next_calls cs + 1
 
 -- What n calls of next octet send: these octets, each for the lane, and then the flag that closes its frame, as far as n goes. What comes
 -- behind the flag is not looked at.
@@ -49,12 +47,12 @@ SendsOf l octets n es = take (length octets + 1) (map (λ (e : Written). e.out) 
 -- of blocks has fewer octets: `Shortest` of `cobs`.)
 abbrev pub SentUninterrupted : Type 0
 SentUninterrupted =
-    (u : Guards) (l : Lane) (w : Station) → SenderReady w.end → BeginsNext u l w.end.state → (calls : List SenderCall)
+    (l : Lane) (w : Station) → SenderReady w.end → BeginsNext l w.end.state → (calls : List SenderCall)
     → (let s = w.end.state in
     let g = agreed s.settings in
-    (l ≡ low → g.pre ≡ true → loaded_into high (after_next_by u w) calls ≡ [])
+    (l ≡ low → g.pre ≡ true → loaded_into high (after_next w) calls ≡ [])
     → (let octets = uninterrupted g.zxe (take (lane_state l s).length (lane_area l w.end)) in
-    SendsOf l octets (next_calls calls + 1) (written w (next_octet_by u ∷ calls))))
+    SendsOf l octets (next_calls calls + 1) (written w (next_octet ∷ calls))))
 
 -- What is still to be sent of a D, from a position on: n data octets of a block and, behind its z zeros, the blocks of the rest.
 unfoldable pub still_to_send : Bool → List ℕ → (pos n z : ℕ) → List ℕ
@@ -90,7 +88,7 @@ abbrev pub calls_to_empty : Sender → ℕ
 calls_to_empty s =
     calls_for s.high.length + calls_for s.low.length + (if loaded s.low && (loaded s.high || s.suspended || s.cut) then 3 else 0)
 
--- from any state in bounds, with areas long enough, by document 01's calls
+-- from any state in bounds, with areas long enough
 abbrev pub Emptied : Type 0
 Emptied = (w : Station) → SenderReady w.end → (n : ℕ) → calls_to_empty w.end.state ≤ n → BothEmpty (run w (replicate n next_octet)).end.state
 
@@ -110,7 +108,6 @@ OnlyHighUntilD1 b [] = Unit {0}
 OnlyHighUntilD1 b (e ∷ es) =
     (b ≡ true → (is_of high e.out ≡ true) ⊎ (e.out ≡ sends low 0xD1)) × OnlyHighUntilD1 (broken_off_after b e.out) es
 
--- The first three are of document 01's next octet; the last two of every list of calls, by any guards.
 --   free: with no lane on the line and the high lane loaded, the next octet is the high lane's
 --   at_once: with PRE, low on the line and not all of its D covered, a loaded high lane breaks it off at once: by the flag if data is left in its
 --   block, else by 02

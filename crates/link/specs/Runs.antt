@@ -5,20 +5,16 @@ use Rattle.fcs.specs.Notation.{if◌then◌else◌}
 use Rattle.cobs.specs.CodeBlocks.{flag}
 use Rattle.link.specs.Agreed.{Settings}
 use Rattle.link.specs.Answers.{Answer, done, octet, idle, quiet, packet, held, refused, is_quiet}
-use Rattle.link.specs.Sender.{Lane, low, high, SenderEnd, Load, Guards, Out, closes, breaks_off, sends, sends_nothing, refuses, Step, is_low, out_answer, lane_area, load, no_guards, next_by}
+use Rattle.link.specs.Sender.{Lane, low, high, SenderEnd, Load, Out, closes, breaks_off, sends, sends_nothing, refuses, Step, is_low, out_answer, lane_area, load, next}
 use Rattle.link.specs.Sender as sender
 use Rattle.link.specs.Receiver.{ReceiverEnd, Receive, area_of, receive}
 
 -- ---- the sender's calls
 
--- a call of load, with any list as the packet, or of next octet, by any guards
+-- a call of load, with any list as the packet, or of next octet
 pub data SenderCall : Type 0 where
   loading : Lane → List ℕ → SenderCall
-  next_octet_by : Guards → SenderCall
-
--- document 01's call of next octet
-abbrev pub next_octet : SenderCall
-next_octet = next_octet_by no_guards
+  next_octet : SenderCall
 
 -- the packet that each lane holds, as it was loaded
 pub record Lanes : Type 0 where
@@ -82,23 +78,20 @@ after_load l p w = loaded_by (load l p w.end.state (lane_area l w.end)) l p w
 abbrev pub after_step : Station → Step → Station
 after_step w t = record { end = record { state = t.state; low = w.end.low; high = w.end.high }; lanes = lanes_after t.out w.lanes }
 
-unfoldable pub after_next_by : Guards → Station → Station
-after_next_by u w = after_step w (next_by u w.end)
-
-abbrev pub after_next : Station → Station
-after_next = after_next_by no_guards
+unfoldable pub after_next : Station → Station
+after_next w = after_step w (next w.end)
 
 -- the station after a list of calls
 unfoldable pub run : Station → List SenderCall → Station
 run w [] = w
 run w (loading l p ∷ cs) = run (after_load l p w) cs
-run w (next_octet_by u ∷ cs) = run (after_next_by u w) cs
+run w (next_octet ∷ cs) = run (after_next w) cs
 
 -- what the calls of a list answer
 unfoldable pub sender_answers : Station → List SenderCall → List Answer
 sender_answers w [] = []
 sender_answers w (loading l p ∷ cs) = (load l p w.end.state (lane_area l w.end)).answer ∷ sender_answers (after_load l p w) cs
-sender_answers w (next_octet_by u ∷ cs) = out_answer (next_by u w.end).out ∷ sender_answers (after_next_by u w) cs
+sender_answers w (next_octet ∷ cs) = out_answer (next w.end).out ∷ sender_answers (after_next w) cs
 
 abbrev pub same_lane : Lane → Lane → Bool
 same_lane low l = is_low l
@@ -111,7 +104,7 @@ loaded_into l w (loading k p ∷ cs) =
     if same_lane l k && is_done (load k p w.end.state (lane_area k w.end)).answer
     then p ∷ loaded_into l (after_load k p w) cs
     else loaded_into l (after_load k p w) cs
-loaded_into l w (next_octet_by u ∷ cs) = loaded_into l (after_next_by u w) cs
+loaded_into l w (next_octet ∷ cs) = loaded_into l (after_next w) cs
 
 -- ---- written octets
 
@@ -136,7 +129,7 @@ writes (refuses n) w es = es
 unfoldable pub written : Station → List SenderCall → List Written
 written w [] = []
 written w (loading l p ∷ cs) = written (after_load l p w) cs
-written w (next_octet_by u ∷ cs) = writes (next_by u w.end).out w (written (after_next_by u w) cs)
+written w (next_octet ∷ cs) = writes (next w.end).out w (written (after_next w) cs)
 
 abbrev pub written_octets : List Written → List ℕ
 written_octets = map (λ (e : Written). e.octet)

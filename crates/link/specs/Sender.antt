@@ -3,7 +3,6 @@ use Rattle.std.specs.Prelude.{Bool, true, false, not, ◌&&◌, ◌||◌, List, 
 use Rattle.fcs.specs.Notation.{if◌then◌else◌}
 use Rattle.cobs.specs.CodeBlocks.{frame, with_phantom, flag, to_line, choice}
 use Rattle.cobs.specs.declared.Choice.{Choice}
-use Rattle.plain.specs.Area.{write}
 use Rattle.link.specs.Agreed.{Settings, Agreed, agreed, valid_width, valid_limit, valid, least_packet, least_frame, largest_frame}
 use Rattle.link.specs.Answers.{Answer, done, octet, idle, refused}
 pub use Rattle.link.specs.declared.sender.Lane.{Lane}
@@ -12,7 +11,6 @@ pub use Rattle.link.specs.declared.sender.OnLine.{OnLine}
 pub use Rattle.link.specs.declared.sender.OnLine.TheVariants.{NoLane as no_lane, Sending as sending}
 pub use Rattle.link.specs.declared.sender.LaneState.{LaneState}
 pub use Rattle.link.specs.declared.sender.Sender.{Sender}
-pub use Rattle.link.specs.declared.sender.Guards.{Guards}
 pub use Rattle.link.specs.declared.sender.Opening.{Opening}
 pub use Rattle.link.specs.declared.sender.Opening.TheVariants.{Opened as opened, Refused as refused_opening}
 
@@ -105,10 +103,6 @@ in_bounds g s =
 
 -- ---- load
 
--- octets written into an area from a place on where they fit, else nothing: what the crates above write by
-unfoldable pub put : List ℕ → ℕ → List ℕ → List ℕ
-put area at xs = if leb (at + length xs) (length area) then write area at xs else area
-
 pub record Load : Type 0 where
   pub answer : Answer
   pub state : Sender
@@ -157,13 +151,6 @@ pub record Step : Type 0 where
   pub out : Out
   pub state : Sender
 
--- The guards of a call (document 02, slip 10), one before step 2 and one before step 4. Who calls says whether they hold: document 01's next
--- octet has neither, the dispatcher's has them by its rule.
---   ahead: low first. Where low was suspended, it takes the line again though high is loaded
---   spared: low not yet. Low is not broken off
-abbrev pub no_guards : Guards
-no_guards = record { ahead = false; spared = false }
-
 -- What a step uses stands before it, so that step 2 comes last.
 
 -- Step 1, a cut is due: the flag. From then on low is suspended, and no lane on the line.
@@ -200,11 +187,11 @@ abbrev pub is_low : Lane → Bool
 is_low low = true
 is_low high = false
 
--- Steps 3 to 6, with the lane l on the line and d its D: the first that applies. spared: the guard before step 4.
-unfoldable pub steps_3_to_6 : Agreed → Bool → Lane → Sender → List ℕ → Step
-steps_3_to_6 g spared l s d =
+-- Steps 3 to 6, with the lane l on the line and d its D: the first that applies.
+unfoldable pub steps_3_to_6 : Agreed → Lane → Sender → List ℕ → Step
+steps_3_to_6 g l s d =
     if ltb (lane_state l s).length (lane_state l s).position then step3_covered l s
-    else if not spared && (is_low l && g.pre && loaded s.high) then step4_break_off s
+    else if is_low l && g.pre && loaded s.high then step4_break_off s
     else if ltb 0 s.left then step5_data l s d
     else step6_code l s (choice g.zxe (drop (lane_state l s).position d))
 
@@ -218,40 +205,31 @@ abbrev pub lane_area : Lane → SenderEnd → List ℕ
 lane_area low e = e.low
 lane_area high e = e.high
 
--- Low takes the line again: D1 alone, and it is suspended no longer.
-abbrev pub step2_resume : Sender → Step
-step2_resume s = record { out = sends low 0xD1; state = with_line (sending low) (with_marks false s.cut s) }
-
--- Step 2, no lane on the line, and before it its guard: high goes before low, unless the guard has a suspended low first; with both empty there
--- is nothing to send. Low, where it was suspended, sends D1; else the lane goes straight on.
-unfoldable pub step2_no_lane : Agreed → Guards → SenderEnd → Step
-step2_no_lane g u e =
+-- Step 2, no lane on the line: high goes before low, and with both empty there is nothing to send. Low, where it was suspended, sends D1 alone
+-- and is so no longer; else the lane goes straight on.
+unfoldable pub step2_no_lane : Agreed → SenderEnd → Step
+step2_no_lane g e =
     let s = e.state in
-    if u.ahead && s.suspended then step2_resume s
-    else if loaded s.high then steps_3_to_6 g u.spared high (with_line (sending high) s) (lane_d s.high e.high)
+    if loaded s.high then steps_3_to_6 g high (with_line (sending high) s) (lane_d s.high e.high)
     else if not (loaded s.low) then record { out = sends_nothing; state = s }
-    else if s.suspended then step2_resume s
-    else steps_3_to_6 g u.spared low (with_line (sending low) s) (lane_d s.low e.low)
+    else if s.suspended then record { out = sends low 0xD1; state = with_line (sending low) (with_marks false s.cut s) }
+    else steps_3_to_6 g low (with_line (sending low) s) (lane_d s.low e.low)
 
 -- The first step that applies, by the mark cut due and by the lane on the line.
-unfoldable pub steps_1_to_6 : Agreed → Guards → SenderEnd → Bool → OnLine → Step
-steps_1_to_6 g u e true o = step1_cut_due e.state
-steps_1_to_6 g u e false no_lane = step2_no_lane g u e
-steps_1_to_6 g u e false (sending l) = steps_3_to_6 g u.spared l e.state (lane_d (lane_state l e.state) (lane_area l e))
+unfoldable pub steps_1_to_6 : Agreed → SenderEnd → Bool → OnLine → Step
+steps_1_to_6 g e true o = step1_cut_due e.state
+steps_1_to_6 g e false no_lane = step2_no_lane g e
+steps_1_to_6 g e false (sending l) = steps_3_to_6 g l e.state (lane_d (lane_state l e.state) (lane_area l e))
 
--- Next octet, by the guards: refusals 3 (of the width or the limit), 2 and 3, in this order, or the steps.
-unfoldable pub next_by : Guards → SenderEnd → Step
-next_by u e =
+-- Next octet: refusals 3 (of the width or the limit), 2 and 3, in this order, or the steps.
+unfoldable pub next : SenderEnd → Step
+next e =
     let s = e.state in
     let g = agreed s.settings in
     if not (valid g) then record { out = refuses 3; state = s }
     else if ltb (length e.low) (largest_frame g) || ltb (length e.high) (largest_frame g) then record { out = refuses 2; state = s }
     else if not (in_bounds g s) then record { out = refuses 3; state = s }
-    else steps_1_to_6 g u e s.cut s.on
-
--- document 01's next octet
-abbrev pub next : SenderEnd → Step
-next = next_by no_guards
+    else steps_1_to_6 g e s.cut s.on
 
 -- what the caller is answered
 pub record Next : Type 0 where

@@ -3,7 +3,7 @@ ghost use Rattle.std.specs.Prelude.{◌≡◌, true, ℕ, ◌+◌, ◌<◌, ◌�
 ghost use Rattle.cobs.specs.CodeBlocks.{choice};
 ghost use Rattle.link.specs.Agreed.{agreed, valid, largest_frame};
 ghost use Rattle.link.specs.Answers.{load_answer, next_answer};
-ghost use Rattle.link.specs.Sender.{opened_sender, open_sender, lane_state, lane_d, with_lane, position_up, with_block, with_line, lane_ok, lane_on_line_ok, line_ok, in_bounds, put_frame, load, step1_cut_due, step3_covered, step4_break_off, step5_data, step6_code, is_low, steps_3_to_6, step2_resume, step2_no_lane, steps_1_to_6, no_guards, next_by, next, seen};
+ghost use Rattle.link.specs.Sender.{opened_sender, open_sender, lane_state, lane_d, with_lane, position_up, with_block, with_line, lane_ok, lane_on_line_ok, line_ok, in_bounds, put_frame, load, step1_cut_due, step3_covered, step4_break_off, step5_data, step6_code, is_low, steps_3_to_6, step2_no_lane, steps_1_to_6, next, seen};
 ghost use Rattle.link.specs.SenderParts.{LaneReady, DataDue, SendsOn};
 
 use crate::Settings;
@@ -71,13 +71,6 @@ pub struct Loaded {
     pub answer: LoadAnswer,
 }
 
-// The guards of a call of next octet (document 02, slip 10): ahead, low goes first where it was suspended; spared, low is not broken off yet.
-#[derive(Drop)]
-pub struct Guards {
-    pub ahead: bool,
-    pub spared: bool,
-}
-
 #[derive(Drop)]
 pub enum NextAnswer {
     Octet(u8),
@@ -105,8 +98,7 @@ pub fn open(settings: Settings) -> Opening
     Opening::Opened(opened(settings))
 }
 
-// A sender with any settings, as it is opened with them.
-pub fn opened(settings: Settings) -> Sender
+fn opened(settings: Settings) -> Sender
     ensures { result ≡ opened_sender settings }
 {
     let empty = LaneState {
@@ -285,7 +277,7 @@ impl Sender {
     }
 
     // The refusal table's last paragraph.
-    pub fn in_bounds(self) -> bool
+    fn in_bounds(self) -> bool
         ensures { result ≡ in_bounds (agreed self.settings) self }
     {
         lane_in_bounds(self.settings, self.low.length, self.low.position)
@@ -431,17 +423,17 @@ impl Sender {
     }
 
     // Steps 3 to 6, with the lane on the line.
-    fn steps_3_to_6(self, lane: Lane, spared: bool, area: &[u8]) -> Sent
+    fn steps_3_to_6(self, lane: Lane, area: &[u8]) -> Sent
         requires { LaneReady (agreed self.settings) (lane_state lane self) self.left self.zeros area.now }
         ensures { record { answer = next_answer result.answer; state = result.state }
-            ≡ seen (steps_3_to_6 (agreed self.settings) spared lane self (lane_d (lane_state lane self) area.now)) }
+            ≡ seen (steps_3_to_6 (agreed self.settings) lane self (lane_d (lane_state lane self) area.now)) }
     {
         let q = self.lane_state(lane);
         let high = self.high;
         if q.length < q.position {
             return self.step3_covered(lane);
         }
-        if !spared & (lane.is_low() & self.settings.pre() & (0 < high.length)) {
+        if lane.is_low() & self.settings.pre() & (0 < high.length) {
             return self.step4_break_off();
         }
         if 0 < self.left {
@@ -450,39 +442,27 @@ impl Sender {
         self.step6_code(lane, q.choose(area, self.settings.zxe()))
     }
 
-    // Low takes the line again: D1 alone, and it is suspended no longer.
-    fn step2_resume(self) -> Sent
-        ensures { record { answer = next_answer result.answer; state = result.state } ≡ seen (step2_resume self) }
-    {
-        let mut on = self.with_line(OnLine::Sending(Lane::Low));
-        on.suspended = false;
-        on.sent(0xd1)
-    }
-
-    // Step 2, no lane on the line: high goes before low, unless the guard has a suspended low first.
-    fn step2_no_lane(self, guards: Guards, low: &[u8], high: &[u8]) -> Sent
+    // Step 2, no lane on the line: high goes before low. Low, where it was suspended, sends D1 alone and is so no longer.
+    fn step2_no_lane(self, low: &[u8], high: &[u8]) -> Sent
         requires { LaneReady (agreed self.settings) self.low self.left self.zeros low.now
             × LaneReady (agreed self.settings) self.high self.left self.zeros high.now }
         ensures { record { answer = next_answer result.answer; state = result.state }
-            ≡ seen (step2_no_lane (agreed self.settings) guards (record { state = self; low = low.now; high = high.now })) }
+            ≡ seen (step2_no_lane (agreed self.settings) (record { state = self; low = low.now; high = high.now })) }
     {
         let high_lane = self.high;
         let low_lane = self.low;
-        if guards.ahead & self.suspended {
-            return self.step2_resume();
-        }
         if 0 < high_lane.length {
             return self
                 .with_line(OnLine::Sending(Lane::High))
-                .steps_3_to_6(Lane::High, guards.spared, high);
+                .steps_3_to_6(Lane::High, high);
         }
         if 0 < low_lane.length {
+            let mut on = self.with_line(OnLine::Sending(Lane::Low));
             if self.suspended {
-                return self.step2_resume();
+                on.suspended = false;
+                return on.sent(0xd1);
             }
-            return self
-                .with_line(OnLine::Sending(Lane::Low))
-                .steps_3_to_6(Lane::Low, guards.spared, low);
+            return on.steps_3_to_6(Lane::Low, low);
         }
         Sent {
             state: self,
@@ -491,73 +471,31 @@ impl Sender {
     }
 
     // The first step that applies.
-    fn steps_1_to_6(self, guards: Guards, low: &[u8], high: &[u8]) -> Sent
+    fn steps_1_to_6(self, low: &[u8], high: &[u8]) -> Sent
         requires { (valid (agreed self.settings) ≡ true)
             × (in_bounds (agreed self.settings) self ≡ true)
             × (largest_frame (agreed self.settings) ≤ length low.now)
             × (largest_frame (agreed self.settings) ≤ length high.now) }
         ensures { record { answer = next_answer result.answer; state = result.state }
-            ≡ seen (steps_1_to_6 (agreed self.settings) guards (record { state = self; low = low.now; high = high.now }) self.cut self.on) }
+            ≡ seen (steps_1_to_6 (agreed self.settings) (record { state = self; low = low.now; high = high.now }) self.cut self.on) }
     {
         let on = self.on;
         if self.cut {
             return self.step1_cut_due();
         }
         match on {
-            OnLine::NoLane => self.step2_no_lane(guards, low, high),
+            OnLine::NoLane => self.step2_no_lane(low, high),
             OnLine::Sending(lane) => {
                 match lane {
-                    Lane::Low => self.steps_3_to_6(Lane::Low, guards.spared, low),
-                    Lane::High => self.steps_3_to_6(Lane::High, guards.spared, high),
+                    Lane::Low => self.steps_3_to_6(Lane::Low, low),
+                    Lane::High => self.steps_3_to_6(Lane::High, high),
                 }
             }
         }
     }
 
     // Refusal 3, then the steps.
-    fn checked(self, guards: Guards, low: &[u8], high: &[u8]) -> Sent
-        requires { (valid (agreed self.settings) ≡ true)
-            × (largest_frame (agreed self.settings) ≤ length low.now)
-            × (largest_frame (agreed self.settings) ≤ length high.now) }
-        ensures { record { answer = next_answer result.answer; state = result.state }
-            ≡ seen (next_by guards (record { state = self; low = low.now; high = high.now })) }
-    {
-        if !self.in_bounds() {
-            return self.next_refused(3);
-        }
-        self.steps_1_to_6(guards, low, high)
-    }
-
-    // The same without guards, for document 01's call: written once more, so that the compiler finds one caller of each and puts them in its place.
-    fn first_step(self, low: &[u8], high: &[u8]) -> Sent
-        requires { (valid (agreed self.settings) ≡ true)
-            × (in_bounds (agreed self.settings) self ≡ true)
-            × (largest_frame (agreed self.settings) ≤ length low.now)
-            × (largest_frame (agreed self.settings) ≤ length high.now) }
-        ensures { record { answer = next_answer result.answer; state = result.state }
-            ≡ seen (steps_1_to_6 (agreed self.settings) no_guards (record { state = self; low = low.now; high = high.now }) self.cut self.on) }
-    {
-        let none = Guards {
-            ahead: false,
-            spared: false,
-        };
-        let on = self.on;
-        if self.cut {
-            let flag = self.step1_cut_due();
-            return flag;
-        }
-        match on {
-            OnLine::NoLane => self.step2_no_lane(none, low, high),
-            OnLine::Sending(lane) => {
-                match lane {
-                    Lane::Low => self.steps_3_to_6(Lane::Low, none.spared, low),
-                    Lane::High => self.steps_3_to_6(Lane::High, none.spared, high),
-                }
-            }
-        }
-    }
-
-    fn tested(self, low: &[u8], high: &[u8]) -> Sent
+    fn checked(self, low: &[u8], high: &[u8]) -> Sent
         requires { (valid (agreed self.settings) ≡ true)
             × (largest_frame (agreed self.settings) ≤ length low.now)
             × (largest_frame (agreed self.settings) ≤ length high.now) }
@@ -567,7 +505,7 @@ impl Sender {
         if !self.in_bounds() {
             return self.next_refused(3);
         }
-        self.first_step(low, high)
+        self.steps_1_to_6(low, high)
     }
 
     // ---- the short way: most calls find a data octet due and nothing else; what is in bounds then takes few tests
@@ -629,22 +567,7 @@ impl Sender {
         self.data_due(self.high.length, self.high.position)
     }
 
-    // Next octet by the guards: the same refusals.
-    pub fn next_octet_by(self, guards: Guards, low: &[u8], high: &[u8]) -> Sent
-        ensures { record { answer = next_answer result.answer; state = result.state }
-            ≡ seen (next_by guards (record { state = self; low = low.now; high = high.now })) }
-    {
-        if !self.settings.valid() {
-            return self.next_refused(3);
-        }
-        let most = self.settings.largest_frame();
-        if (low.len() < most) | (high.len() < most) {
-            return self.next_refused(2);
-        }
-        self.checked(guards, low, high)
-    }
-
-    // Next octet, document 01's call, with neither guard: refusals 3 (of the width or the limit), 2 and 3, in this order.
+    // Next octet: refusals 3 (of the width or the limit), 2 and 3, in this order.
     pub fn next_octet(self, low: &[u8], high: &[u8]) -> Sent
         ensures { record { answer = next_answer result.answer; state = result.state }
             ≡ seen (next (record { state = self; low = low.now; high = high.now })) }
@@ -658,20 +581,20 @@ impl Sender {
         }
         let on = self.on;
         match on {
-            OnLine::NoLane => self.tested(low, high),
+            OnLine::NoLane => self.checked(low, high),
             OnLine::Sending(lane) => {
                 match lane {
                     Lane::Low => {
                         if self.low_sends_on() {
                             return self.step5_data(Lane::Low, low);
                         }
-                        self.tested(low, high)
+                        self.checked(low, high)
                     }
                     Lane::High => {
                         if self.high_sends_on() {
                             return self.step5_data(Lane::High, high);
                         }
-                        self.tested(low, high)
+                        self.checked(low, high)
                     }
                 }
             }

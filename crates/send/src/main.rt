@@ -1,10 +1,9 @@
 // The sender as a program: packets in, the octets of the line on standard output (docs/SEND.md). Each file that it is called with has a sender of its own.
-ghost use Rattle.std.specs.Prelude.{◌≡◌, ◌+◌, ◌<◌, ◌≤◌, length};
+ghost use Rattle.std.specs.Prelude.{◌≡◌, ◌<◌, ◌≤◌, length};
 
-use dispatcher::{Dispatcher, Loaded, PLACES};
 use libc::{STDERR_FILENO, STDOUT_FILENO};
 use link::Settings;
-use link::sender::{Lane, LoadAnswer, NextAnswer, Sender};
+use link::sender::{Lane, LoadAnswer, Opening, Sender};
 
 // Octets of a record before its packet: the lane, and two numbers of two octets.
 const HEAD: usize = 5;
@@ -12,14 +11,12 @@ const HEAD: usize = 5;
 // The limit, where a file says none: document 01's.
 const DEFAULT_LIMIT: u16 = 2048;
 
-// The sender, and how many octets on the page are still to be written. on: there was no fault, and all was written. ruled: the file runs through the
-// dispatcher; if not, only its sender is used.
+// The sender, and how many octets on the page are still to be written. on: there was no fault, and all was written.
 #[derive(Drop)]
 struct Line {
     filled: usize,
     on: bool,
-    ruled: bool,
-    state: Dispatcher,
+    state: Sender,
 }
 
 // What is wrong with a file of records.
@@ -43,13 +40,6 @@ struct Carried {
 #[derive(Drop)]
 struct Step {
     line: Line,
-    octets: usize,
-}
-
-// The dispatcher after some octets, and how many.
-#[derive(Drop)]
-struct Stretch {
-    state: Dispatcher,
     octets: usize,
 }
 
@@ -130,8 +120,8 @@ fn file(number: usize) -> bool {
     whole
 }
 
-// What a file has before its records: the settings octet, the width behind a W where there is one, the limit, and the D. The answer says whether
-// all of the file was sent.
+// What a file has before its records: the settings octet, the width behind a W where there is one, and the limit. The answer says whether all
+// of the file was sent.
 fn head(fd: i32, name: &[u8]) -> bool {
     let settings = octet(fd);
     if settings.got <= 0 {
@@ -169,39 +159,35 @@ fn behind_width(fd: i32, settings: u8, width: u8, next: OneOctet, place: u64, na
         if low.got <= 0 {
             return no_limit(low.got, name);
         }
-        let agreed = Settings {
+        return open(
+            fd,
+            Settings {
+                octet: settings,
+                width,
+                limit: number(high.octet, low.octet),
+            },
+            Start {
+                place: place + 3,
+                kept: 0,
+                first: 0,
+            },
+            name,
+        );
+    }
+    open(
+        fd,
+        Settings {
             octet: settings,
             width,
-            limit: number(high.octet, low.octet),
-        };
-        return behind_limit(fd, agreed, octet(fd), place + 3, name);
-    }
-    let agreed = Settings {
-        octet: settings,
-        width,
-        limit: DEFAULT_LIMIT,
-    };
-    behind_limit(fd, agreed, next, place, name)
-}
-
-// What a file has behind the limit: a D where it runs through the dispatcher.
-fn behind_limit(fd: i32, settings: Settings, next: OneOctet, place: u64, name: &[u8]) -> bool
-    requires { place ≤ 6 }
-{
-    if (0 < next.got) & (next.octet == b'D') {
-        let behind = Start {
-            place: place + 1,
-            kept: 0,
-            first: 0,
-        };
-        return open(fd, settings, true, behind, name);
-    }
-    let here = Start {
-        place,
-        kept: read_one(next.got),
-        first: next.octet,
-    };
-    open(fd, settings, false, here, name)
+            limit: DEFAULT_LIMIT,
+        },
+        Start {
+            place,
+            kept: read_one(next.got),
+            first: next.octet,
+        },
+        name,
+    )
 }
 
 // How many octets a read of one has read, 0 or 1.
@@ -215,29 +201,26 @@ fn read_one(got: isize) -> usize
 }
 
 // The sender is opened, and the records are sent.
-fn open(fd: i32, settings: Settings, ruled: bool, records: Start, name: &[u8]) -> bool
+fn open(fd: i32, settings: Settings, records: Start, name: &[u8]) -> bool
     requires { records.kept ≤ 1 }
 {
-    let opening = dispatcher::open(settings);
-    let state = opening.state;
-    let refused = opening.refused;
-    match refused {
-        0 => {
-            let outcome = all(fd, state, ruled, records);
+    let opening = link::sender::open(settings);
+    match opening {
+        Opening::Opened(sender) => {
+            let outcome = all(fd, sender, records);
             told(outcome, settings.limit, name)
         }
-        23 => {
+        Opening::Refused(n) => {
             files::complain(b"send", name);
-            say(b"its limit is ");
-            io::print_decimal(STDERR_FILENO, settings.limit as u64);
-            say(b", not from 2 to 16384\n");
-            false
-        }
-        _ => {
-            files::complain(b"send", name);
-            say(b"its width is ");
-            io::print_decimal(STDERR_FILENO, settings.width as u64);
-            say(b", neither 16 nor 32\n");
+            if n == 23 {
+                say(b"its limit is ");
+                io::print_decimal(STDERR_FILENO, settings.limit as u64);
+                say(b", not from 2 to 16384\n");
+            } else {
+                say(b"its width is ");
+                io::print_decimal(STDERR_FILENO, settings.width as u64);
+                say(b", neither 16 nor 32\n");
+            }
             false
         }
     }
@@ -254,17 +237,15 @@ fn octet(fd: i32) -> OneOctet {
 }
 
 // The line of a file's records.
-fn all(fd: i32, state: Dispatcher, ruled: bool, from: Start) -> Outcome
+fn all(fd: i32, sender: Sender, from: Start) -> Outcome
     requires { from.kept ≤ 1 }
 {
     let mut input = input_buffer();
     let mut page = io::large_buffer();
     let mut low = lane_buffer();
     let mut high = lane_buffer();
-    let mut waiting = waiting_buffer();
     let mut line = Line {
-        state,
-        ruled,
+        state: sender,
         filled: 0,
         on: true,
     };
@@ -275,16 +256,7 @@ fn all(fd: i32, state: Dispatcher, ruled: bool, from: Start) -> Outcome
     let mut fault = Fault::Nothing;
     let mut reads = u64::MAX;
     while reads > 0 {
-        let rest = read(
-            fd,
-            line,
-            kept,
-            &mut input,
-            &mut low,
-            &mut high,
-            &mut waiting,
-            &mut page,
-        );
+        let rest = read(fd, line, kept, &mut input, &mut low, &mut high, &mut page);
         line = rest.line;
         fault = rest.fault;
         kept = rest.kept;
@@ -317,13 +289,6 @@ fn lane_buffer() -> [u8; 16388]
     [0; 16388]
 }
 
-// Room for eight packets of the largest limit that wait.
-fn waiting_buffer() -> [u8; 131072]
-    ensures { 131072 ≡ length result }
-{
-    [0; 131072]
-}
-
 // A number is two octets, the high one first.
 fn number(high: u8, low: u8) -> u16 {
     256 * (high as u16) + low as u16
@@ -339,7 +304,6 @@ fn read(
     input: &mut [u8],
     low: &mut [u8],
     high: &mut [u8],
-    waiting: &mut [u8],
     page: &mut [u8],
 ) -> Rest
     requires { (line.filled < length page.old) × (kept ≤ length input.old) }
@@ -347,7 +311,7 @@ fn read(
 {
     let came = more(fd, kept, input);
     if came.got <= 0 {
-        let over = finish(line, came.got, kept, low, high, waiting, page);
+        let over = finish(line, came.got, kept, low, high, page);
         let after = over.line;
         let fault = over.fault;
         return Rest {
@@ -360,7 +324,7 @@ fn read(
         };
     }
     let n = came.octets;
-    let taken = records(line, &input[0..n], low, high, waiting, page);
+    let taken = records(line, &input[0..n], low, high, page);
     rest_of(taken, n, input)
 }
 
@@ -392,15 +356,7 @@ fn rest_of(taken: Taken, n: usize, input: &mut [u8]) -> Rest
 }
 
 // The end of the input: what the sender holds is sent.
-fn finish(
-    line: Line,
-    got: isize,
-    kept: usize,
-    low: &[u8],
-    high: &mut [u8],
-    waiting: &[u8],
-    page: &mut [u8],
-) -> Carried
+fn finish(line: Line, got: isize, kept: usize, low: &[u8], high: &[u8], page: &mut [u8]) -> Carried
     requires { line.filled < length page.old }
     ensures { result.line.filled < length page.new }
 {
@@ -410,7 +366,7 @@ fn finish(
     if 0 < kept {
         return stop(line, Fault::CutShort, page);
     }
-    let idle = send(line, 0xffff_ffff_ffff_ffff, low, high, waiting, page);
+    let idle = send(line, 0xffff_ffff_ffff_ffff, low, high, page);
     let written = write_out(idle, page);
     Carried {
         line: written,
@@ -432,14 +388,7 @@ fn keep(from: usize, to: usize, input: &mut [u8]) -> usize
 }
 
 // The records of a stretch of input, up to the first that is not whole or has a fault.
-fn records(
-    line: Line,
-    octets: &[u8],
-    low: &mut [u8],
-    high: &mut [u8],
-    waiting: &mut [u8],
-    page: &mut [u8],
-) -> Taken
+fn records(line: Line, octets: &[u8], low: &mut [u8], high: &mut [u8], page: &mut [u8]) -> Taken
     requires { line.filled < length page.old }
     ensures { (result.line.filled < length page.new) × (result.used ≤ length octets.now) }
 {
@@ -448,7 +397,7 @@ fn records(
     let mut whole = 0usize;
     let mut at = 0usize;
     while at < octets.len() {
-        let taken = record(end, &octets[at..], low, high, waiting, page);
+        let taken = record(end, &octets[at..], low, high, page);
         end = taken.line;
         fault = taken.fault;
         let used = taken.used;
@@ -467,14 +416,7 @@ fn records(
 }
 
 // The first record of a stretch; no octet is used where it is not whole or has a fault.
-fn record(
-    line: Line,
-    octets: &[u8],
-    low: &mut [u8],
-    high: &mut [u8],
-    waiting: &mut [u8],
-    page: &mut [u8],
-) -> Taken
+fn record(line: Line, octets: &[u8], low: &mut [u8], high: &mut [u8], page: &mut [u8]) -> Taken
     requires { line.filled < length page.old }
     ensures { (result.line.filled < length page.new) × (result.used ≤ length octets.now) }
 {
@@ -486,16 +428,7 @@ fn record(
         return not_taken(line, Fault::Nothing);
     }
     let wait = number(octets[1], octets[2]) as usize;
-    let carried = carry_out(
-        line,
-        octets[0],
-        wait,
-        &octets[HEAD..used],
-        low,
-        high,
-        waiting,
-        page,
-    );
+    let carried = carry_out(line, octets[0], wait, &octets[HEAD..used], low, high, page);
     let after = carried.line;
     let fault = carried.fault;
     if !after.on {
@@ -517,7 +450,6 @@ fn carry_out(
     packet: &[u8],
     low: &mut [u8],
     high: &mut [u8],
-    waiting: &mut [u8],
     page: &mut [u8],
 ) -> Carried
     requires { line.filled < length page.old }
@@ -525,21 +457,17 @@ fn carry_out(
 {
     match lane {
         b'L' => {
-            let free = make_way(line, Lane::Low, wait, low, high, waiting, page);
+            let free = make_way(line, Lane::Low, wait, low, high, page);
             load(free, Lane::Low, packet, low, page)
         }
         b'H' => {
-            let free = make_way(line, Lane::High, wait, low, high, waiting, page);
-            if line.ruled {
-                return load(free, Lane::High, packet, waiting, page);
-            }
+            let free = make_way(line, Lane::High, wait, low, high, page);
             load(free, Lane::High, packet, high, page)
         }
         _ => stop(line, Fault::WrongLane, page),
     }
 }
 
-// A packet is loaded into its lane, or waits: area is the lane's, or that of the packets that wait.
 fn load(line: Line, lane: Lane, packet: &[u8], area: &mut [u8], page: &[u8]) -> Carried
     requires { line.filled < length page.now }
     ensures { result.line.filled < length page.now }
@@ -550,14 +478,13 @@ fn load(line: Line, lane: Lane, packet: &[u8], area: &mut [u8], page: &[u8]) -> 
             fault: Fault::Nothing,
         };
     }
-    let loaded = load_by(line.state, line.ruled, lane, packet, area);
+    let loaded = line.state.load(lane, packet, area);
     let state = loaded.state;
     let answer = loaded.answer;
     match answer {
         LoadAnswer::Done => {
             let after = Line {
                 state,
-                ruled: line.ruled,
                 filled: line.filled,
                 on: true,
             };
@@ -570,62 +497,26 @@ fn load(line: Line, lane: Lane, packet: &[u8], area: &mut [u8], page: &[u8]) -> 
     }
 }
 
-fn load_by(state: Dispatcher, ruled: bool, lane: Lane, packet: &[u8], area: &mut [u8]) -> Loaded {
-    if ruled {
-        return match lane {
-            Lane::Low => state.load_low(packet, area),
-            Lane::High => state.load_high(packet, area),
-        };
-    }
-    let loaded = state.sender.load(lane, packet, area);
-    let answer = loaded.answer;
-    Loaded {
-        state: with_sender(state, loaded.state),
-        answer,
-    }
-}
-
-fn with_sender(state: Dispatcher, sender: Sender) -> Dispatcher {
-    let mut next = state;
-    next.sender = sender;
-    next
-}
-
 // ---- the output
 
-// Up to `wait` octets, then further ones while there is no room for a packet of this lane.
-fn make_way(
-    line: Line,
-    lane: Lane,
-    wait: usize,
-    low: &[u8],
-    high: &mut [u8],
-    waiting: &[u8],
-    page: &mut [u8],
-) -> Line
+// Up to `wait` octets, then further ones while the lane holds a packet.
+fn make_way(line: Line, lane: Lane, wait: usize, low: &[u8], high: &[u8], page: &mut [u8]) -> Line
     requires { line.filled < length page.old }
     ensures { result.filled < length page.new }
 {
-    let waited = send(line, wait, low, high, waiting, page);
-    clear(waited, lane, low, high, waiting, page)
+    let waited = send(line, wait, low, high, page);
+    clear(waited, lane, low, high, page)
 }
 
 // Up to so many octets; fewer if the sender gets idle.
-fn send(
-    line: Line,
-    most: usize,
-    low: &[u8],
-    high: &mut [u8],
-    waiting: &[u8],
-    page: &mut [u8],
-) -> Line
+fn send(line: Line, most: usize, low: &[u8], high: &[u8], page: &mut [u8]) -> Line
     requires { line.filled < length page.old }
     ensures { result.filled < length page.new }
 {
     let mut end = line;
     let mut left = most;
     while left > 0 {
-        let step = go_on(end, left, low, high, waiting, page);
+        let step = go_on(end, left, low, high, page);
         end = step.line;
         if step.octets == 0 {
             break;
@@ -635,38 +526,26 @@ fn send(
     end
 }
 
-// There is no room for a packet of this lane: it holds one, or eight wait already.
-fn full(line: Line, lane: Lane) -> bool {
+fn holds(state: Sender, lane: Lane) -> bool {
     match lane {
-        Lane::Low => 0 < line.state.sender.low.length,
-        Lane::High => {
-            if line.ruled {
-                return PLACES <= line.state.waiting as usize;
-            }
-            0 < line.state.sender.high.length
-        }
+        Lane::Low => 0 < state.low.length,
+        Lane::High => 0 < state.high.length,
     }
 }
 
-// Octets while there is no room: a lane is free behind a flag, and a place where a packet was taken up.
-fn clear(
-    line: Line,
-    lane: Lane,
-    low: &[u8],
-    high: &mut [u8],
-    waiting: &[u8],
-    page: &mut [u8],
-) -> Line
+// Octets while the lane holds a packet: it is free behind a flag.
+fn clear(line: Line, lane: Lane, low: &[u8], high: &[u8], page: &mut [u8]) -> Line
     requires { line.filled < length page.old }
     ensures { result.filled < length page.new }
 {
     let mut end = line;
     let mut steps = u64::MAX;
     while steps > 0 {
-        if !full(end, lane) {
+        let state = end.state;
+        if !holds(state, lane) {
             break;
         }
-        let step = go_on(end, 0xffff_ffff_ffff_ffff, low, high, waiting, page);
+        let step = go_on(end, 0xffff_ffff_ffff_ffff, low, high, page);
         end = step.line;
         if step.octets == 0 {
             break;
@@ -676,15 +555,8 @@ fn clear(
     end
 }
 
-// Up to so many octets, no further than to a flag, to where a packet that waited is taken up, or to the page's end; none if the sender is idle.
-fn go_on(
-    line: Line,
-    most: usize,
-    low: &[u8],
-    high: &mut [u8],
-    waiting: &[u8],
-    page: &mut [u8],
-) -> Step
+// Up to so many octets, no further than to a flag or to the page's end; none if the sender is idle.
+fn go_on(line: Line, most: usize, low: &[u8], high: &[u8], page: &mut [u8]) -> Step
     requires { line.filled < length page.old }
     ensures { (result.line.filled < length page.new) × (result.octets ≤ most) }
 {
@@ -693,66 +565,12 @@ fn go_on(
     }
     let filled = line.filled;
     let end = filled + cobs::lesser(most, page.len() - filled);
-    if line.ruled {
-        let sent = dispatch(line.state, low, high, waiting, &mut page[filled..end]);
-        return behind(line, sent.state, sent.octets, page);
-    }
-    let sent = write(line.state, low, high, &mut page[filled..end]);
-    behind(line, sent.state, sent.octets, page)
-}
-
-// The sender's next octets.
-fn write(state: Dispatcher, low: &[u8], high: &[u8], part: &mut [u8]) -> Stretch
-    ensures { result.octets ≤ length part.old }
-{
-    let written = writer::write_on(state.sender, low, high, part);
-    Stretch {
-        state: with_sender(state, written.state),
-        octets: written.filled,
-    }
-}
-
-// The dispatcher's, as far as `go_on` goes.
-fn dispatch(
-    state: Dispatcher,
-    low: &[u8],
-    high: &mut [u8],
-    waiting: &[u8],
-    part: &mut [u8],
-) -> Stretch
-    ensures { result.octets ≤ length part.old }
-{
-    let n = part.len();
-    let mut end = state;
-    let mut i = 0usize;
-    while i < n {
-        let sent = end.next_octet(low, high, waiting);
-        let answer = sent.answer;
-        let NextAnswer::Octet(octet) = answer else {
-            break;
-        };
-        end = sent.state;
-        part[i] = octet;
-        i += 1;
-        if (octet == cobs::FLAG) | (end.waiting < state.waiting) {
-            break;
-        }
-    }
-    Stretch {
-        state: end,
-        octets: i,
-    }
-}
-
-// The line with so many octets more on the page.
-fn behind(line: Line, state: Dispatcher, octets: usize, page: &[u8]) -> Step
-    requires { (line.filled + octets ≤ length page.now) × (0 < length page.now) }
-    ensures { (result.line.filled < length page.now) × (result.octets ≤ octets) }
-{
+    let written = writer::write_on(line.state, low, high, &mut page[filled..end]);
+    let state = written.state;
+    let octets = written.filled;
     let after = Line {
         state,
-        ruled: line.ruled,
-        filled: line.filled + octets,
+        filled: filled + octets,
         on: true,
     };
     let next = turn(after, page);

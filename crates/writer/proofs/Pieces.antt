@@ -11,8 +11,8 @@ use Rattle.cobs.specs.CodeBlocks.{flag}
 use Rattle.cobs.proofs.Tests.{branch}
 use Rattle.link.specs.Answers.{Answer, done, octet, idle, quiet, packet, held, refused}
 use Rattle.link.specs.declared.sender.Sender.{Sender}
-use Rattle.link.specs.Sender.{SenderEnd, Out, closes, breaks_off, sends, sends_nothing, refuses, out_answer, next_by, next}
-use Rattle.link.specs.Runs.{SenderCall, loading, next_octet_by, next_octet, Station, after_load, after_next_by, run, Written, writes, written, written_octets}
+use Rattle.link.specs.Sender.{SenderEnd, Out, closes, breaks_off, sends, sends_nothing, refuses, out_answer, next}
+use Rattle.link.specs.Runs.{SenderCall, loading, next_octet, Station, after_load, after_next, run, Written, writes, written, written_octets}
 use Rattle.writer.specs.Writing.{Wrote, writes_nothing, octet_first, by_answer, write_on}
 use Rattle.writer.specs.Pieces.{ProgramStep, loads, piece, after_loading, after_piece, in_pieces, calls_of, HoweverCut, NoOctet, Ends, full, behind_flag, no_octet, Piece, WherePiecesEnd, OnTheLine}
 use Rattle.writer.proofs.Steps.{with}
@@ -33,12 +33,12 @@ put (refused n) xs = xs
 line_of : SenderEnd → List SenderCall → List ℕ
 line_of e [] = []
 line_of e (loading l p ∷ cs) = line_of (after_loading l p e) cs
-line_of e (next_octet_by u ∷ cs) = put (out_answer (next_by u e).out) (line_of (with (next_by u e).state e) cs)
+line_of e (next_octet ∷ cs) = put (out_answer (next e).out) (line_of (with (next e).state e) cs)
 
 end_of : SenderEnd → List SenderCall → SenderEnd
 end_of e [] = e
 end_of e (loading l p ∷ cs) = end_of (after_loading l p e) cs
-end_of e (next_octet_by u ∷ cs) = end_of (with (next_by u e).state e) cs
+end_of e (next_octet ∷ cs) = end_of (with (next e).state e) cs
 
 -- what a call writes, by its answer
 written-put : (o : Out) (w : Station) (es : List Written) → written_octets (writes o w es) ≡ put (out_answer o) (written_octets es)
@@ -50,16 +50,16 @@ written-put (refuses n) w es = refl
 
 -- Of link's runs only these two know what is inside.
 line-of : (w : Station) (cs : List SenderCall) → written_octets (written w cs) ≡ line_of w.end cs
-unfolding written after_load after_next_by line_of
+unfolding written after_load after_next line_of
 line-of w [] = refl
 line-of w (loading l p ∷ cs) = line-of (after_load l p w) cs
-line-of w (next_octet_by u ∷ cs) = written-put (next_by u w.end).out w _ ∙ ap (put (out_answer (next_by u w.end).out)) (line-of _ cs)
+line-of w (next_octet ∷ cs) = written-put (next w.end).out w _ ∙ ap (put (out_answer (next w.end).out)) (line-of _ cs)
 
 end-of : (w : Station) (cs : List SenderCall) → (run w cs).end ≡ end_of w.end cs
-unfolding run after_load after_next_by end_of
+unfolding run after_load after_next end_of
 end-of w [] = refl
 end-of w (loading l p ∷ cs) = end-of (after_load l p w) cs
-end-of w (next_octet_by u ∷ cs) = end-of _ cs
+end-of w (next_octet ∷ cs) = end-of _ cs
 
 -- ---- a piece
 

@@ -22,7 +22,7 @@ use Rattle.link.specs.declared.Settings.{Settings}
 use Rattle.link.specs.declared.sender.Sender.{Sender}
 use Rattle.link.specs.declared.sender.Lane.{Lane}
 use Rattle.link.specs.declared.sender.Lane.TheVariants.{Low as low, High as high}
-use Rattle.link.specs.Sender.{SenderEnd, Next, lane_area, lane_state, no_guards, next, seen}
+use Rattle.link.specs.Sender.{SenderEnd, Next, lane_area, lane_state, next, seen}
 use Rattle.link.specs.SenderParts.{SenderReady}
 use Rattle.link.proofs.EachCall.{settings-stay}
 use Rattle.link.proofs.WriteOn.{octet-ready, sent, Stretch, first, rest, inside, plain}
@@ -59,7 +59,7 @@ ready-after e a t p x q = octet-ready e x t (rw q at p)
 
 -- nor does a call change the settings
 pub settings-kept : (e : SenderEnd) (a : NextAnswer) (t : Sender) → record { answer = next_answer a; state = t } ≡ seen (next e) → t.settings ≡ e.state.settings
-settings-kept e a t p = ap (λ (h : Next). h.state.settings) p ∙ settings-stay.next no_guards e
+settings-kept e a t p = ap (λ (h : Next). h.state.settings) p ∙ settings-stay.next e
 
 -- a sender with settings stored in it; where they are its own, it writes on as it did
 abbrev with_settings : Settings → Sender → Sender

@@ -1,6 +1,6 @@
 -- What follows where the tests of the sender's calls pass: what a lane on the line asks of the state and its area.
 use mathlib.Core.Path.{◌≡◌, refl, sym, subst, ◌∙◌}
-use mathlib.Core.Bool.{Bool, true, false, not, ◌&&◌, ◌||◌}
+use mathlib.Core.Bool.{Bool, true, false, ◌&&◌, ◌||◌}
 use mathlib.Core.List.{List}
 use Prim.Native.Nat.{ℕ, ◌+◌, ◌≤◌, ◌<◌}
 use native.Mathlib.Omega.{arith}
@@ -8,8 +8,8 @@ use borrow.Author.Tests.{le-ltb, lt-ltb, eqb-false}
 use lib.Dec.{ltb, eqb}
 use lib.ListN.{length}
 use Rattle.link.specs.Agreed.{Agreed, agreed, largest_frame, valid}
-use Rattle.link.specs.Sender.{LaneState, Sender, SenderEnd, Guards, Lane, OnLine, low, high, no_lane, sending, in_bounds, lane_ok, lane_state, lane_area, is_low, loaded, lane_d}
-use Rattle.link.specs.Sender.{with_block, position_up, steps_3_to_6, step5_data, steps_1_to_6, next_by}
+use Rattle.link.specs.Sender.{LaneState, Sender, SenderEnd, Lane, OnLine, low, high, no_lane, sending, in_bounds, lane_ok, lane_state, lane_area, is_low, loaded, lane_d}
+use Rattle.link.specs.Sender.{with_block, position_up, steps_3_to_6, step5_data, steps_1_to_6, next}
 use Rattle.link.specs.SenderParts.{LaneReady, DataDue}
 use Rattle.link.proofs.Tests.{or_left, or_right, true-false}
 use Rattle.link.proofs.SenderBounds.{LaneOk, LineOk, Bounds, bounds, in_bounds_lem, ok-lane, most}
@@ -95,40 +95,35 @@ module _ (s : Sender) where
       held false f k = true-false (sym k)
 
 -- then next octet sends the data octet
-steps-send : (g : Agreed) (sp : Bool) (l : Lane) (s : Sender) (d : List ℕ) → (lane_state l s).position ≤ (lane_state l s).length → (not sp && (is_low l && g.pre && loaded s.high)) ≡ false
-    → 0 < s.left → steps_3_to_6 g sp l s d ≡ step5_data l s d
+steps-send : (g : Agreed) (l : Lane) (s : Sender) (d : List ℕ) → (lane_state l s).position ≤ (lane_state l s).length → (is_low l && g.pre && loaded s.high) ≡ false
+    → 0 < s.left → steps_3_to_6 g l s d ≡ step5_data l s d
 unfolding steps_3_to_6
-steps-send g sp l s d p f n = rw (le-ltb _ _ p, f, lt-ltb 0 _ n)
+steps-send g l s d p f n = rw (le-ltb _ _ p, f, lt-ltb 0 _ n)
 
-module _ (gs : Guards) (e : SenderEnd) (v : valid (agreed e.state.settings) ≡ true)
+module _ (e : SenderEnd) (v : valid (agreed e.state.settings) ≡ true)
     (short : (ltb (length e.low) (largest_frame (agreed e.state.settings)) || ltb (length e.high) (largest_frame (agreed e.state.settings))) ≡ false)
     (h : in_bounds (agreed e.state.settings) e.state ≡ true) (some : 0 < e.state.left) where
   on_line : (l : Lane) → e.state.on ≡ sending l → e.state.cut ≡ false
-      → next_by gs e ≡ steps_3_to_6 (agreed e.state.settings) gs.spared l e.state (lane_d (lane_state l e.state) (lane_area l e))
-  unfolding next_by steps_1_to_6
+      → next e ≡ steps_3_to_6 (agreed e.state.settings) l e.state (lane_d (lane_state l e.state) (lane_area l e))
+  unfolding next steps_1_to_6
   on_line l o c = rw (v, short, h, c, o)
 
-  sends : (l : Lane) → e.state.on ≡ sending l → e.state.cut ≡ false → (not gs.spared && (is_low l && (agreed e.state.settings).pre && loaded e.state.high)) ≡ false
-      → (lane_state l e.state).position ≤ (lane_state l e.state).length → next_by gs e ≡ step5_data l e.state (lane_d (lane_state l e.state) (lane_area l e))
-  sends l o c f p = on_line l o c ∙ steps-send (agreed e.state.settings) gs.spared l e.state _ p f some
+  sends : (l : Lane) → e.state.on ≡ sending l → e.state.cut ≡ false → (is_low l && (agreed e.state.settings).pre && loaded e.state.high) ≡ false
+      → (lane_state l e.state).position ≤ (lane_state l e.state).length → next e ≡ step5_data l e.state (lane_d (lane_state l e.state) (lane_area l e))
+  sends l o c f p = on_line l o c ∙ steps-send (agreed e.state.settings) l e.state _ p f some
 
-  pub low-sends : e.state.on ≡ sending low → e.state.high.length ≡ 0 → next_by gs e ≡ step5_data low e.state (lane_d e.state.low e.low)
+  pub low-sends : e.state.on ≡ sending low → e.state.high.length ≡ 0 → next e ≡ step5_data low e.state (lane_d e.state.low e.low)
   low-sends o z =
       let r = line e.state v h (sending low) o in
-      sends low o (whole e.state.cut r.2) (rw z (alone (not gs.spared) (agreed e.state.settings).pre)) (omega (arith, r.0.room, some))
+      sends low o (whole e.state.cut r.2) (rw z (alone (agreed e.state.settings).pre)) (omega (arith, r.0.room, some))
     where
       whole : (c : Bool) → (c ≡ true → e.state.left ≡ 0) → c ≡ false
       whole true f = absurd (omega (arith, f refl, some))
       whole false f = refl
 
-      alone : (a b : Bool) → (a && (b && false)) ≡ false
-      alone true true = refl
-      alone true false = refl
-      alone false b = refl
+      alone : (b : Bool) → (b && false) ≡ false
+      alone true = refl
+      alone false = refl
 
-  pub high-sends : e.state.on ≡ sending high → next_by gs e ≡ step5_data high e.state (lane_d e.state.high e.high)
-  high-sends o = let r = line e.state v h (sending high) o in sends high o r.1 (none (not gs.spared)) (omega (arith, r.0.room, some))
-    where
-      none : (a : Bool) → (a && false) ≡ false
-      none true = refl
-      none false = refl
+  pub high-sends : e.state.on ≡ sending high → next e ≡ step5_data high e.state (lane_d e.state.high e.high)
+  high-sends o = let r = line e.state v h (sending high) o in sends high o r.1 refl (omega (arith, r.0.room, some))

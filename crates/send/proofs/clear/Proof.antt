@@ -4,10 +4,10 @@ use Rattle.send.proofs.clear.Statement.{statement}
 use Rattle.send.proofs.clear.Tie as tie
 
 abbrev invariant-loop : tie.invariant-loop
-invariant-loop lane low high₀ waiting page₀ end₀ steps₀ high page end steps = (end.filled < length page) × (length high ≡ length high₀) × (length page ≡ length page₀)
+invariant-loop lane low high page₀ end₀ steps₀ page end steps = (end.filled < length page) × (length page ≡ length page₀)
 
 abbrev decreases-loop : tie.decreases-loop
-decreases-loop lane low high₀ waiting page₀ end₀ steps₀ high page end steps = steps
+decreases-loop lane low high page₀ end₀ steps₀ page end steps = steps
 
 pub clear_spec : {M : Type 1} → statement M
 clear_spec =
@@ -18,9 +18,6 @@ clear_spec =
     (λ c. search rules)
     (λ c κs. search rules)
     (λ c κs. search rules)
-    (λ c. search rules)
-    (λ c. search rules)
-    (λ c. search rules)
     (λ c. search rules)
     (λ c. search rules)
     (λ c. search rules)

@@ -4,11 +4,11 @@ use Rattle.send.proofs.read.Statement.{statement}
 use Rattle.send.proofs.read.Tie as tie
 
 -- the input is as long as it was: behind the call of rest_of, and that of more before it
-same-length-6 : tie.Need-same-length-6
-same-length-6 c =
+same-length-5 : tie.Need-same-length-5
+same-length-5 c =
     let r = c.before.before in
-    let k = r.before.before.before.before.before.before.before.before.before.before in
-    let m = k.before.before.before.before.before.before.before.before.before.before.before.before in
+    let k = r.before.before.before.before.before.before.before.before in
+    let m = k.before.before.before.before.before.before.before.before.before.before.before in
     r.rest_of.auto.1.1.0 ∙ m.more.auto.1.1.0
 
 pub read_spec : {M : Type 1} → statement M
@@ -25,11 +25,9 @@ read_spec =
     (λ c. search rules)
     (λ c. search rules)
     (λ c. search rules)
-    (λ c. search rules)
     (λ c κs. search rules)
     (λ c κs. search rules)
-    same-length-6
-    (λ c. search rules)
+    same-length-5
     (λ c. search rules)
     (λ c. search rules)
     (λ c. search rules)

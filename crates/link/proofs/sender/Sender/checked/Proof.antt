@@ -2,7 +2,7 @@
 use mathlib.Core.Path.{sym, ◌∙◌}
 use borrow.Author.Rules.{rules}
 use borrow.Author.Tests.{not-true, not-false}
-use Rattle.link.specs.Sender.{next_by}
+use Rattle.link.specs.Sender.{next}
 use Rattle.link.proofs.Tests.{none-short}
 use Rattle.link.proofs.sender.Sender.checked.Statement.{statement}
 use Rattle.link.proofs.sender.Sender.checked.Tie as tie
@@ -14,7 +14,7 @@ next-refused-requires : tie.Need-next-refused-requires
 next-refused-requires c κs = search rules
 
 returns : tie.Need-returns
-unfolding next_by
+unfolding next
 returns c =
     let i = c.before in
     let b = i.before in
@@ -28,7 +28,7 @@ steps-1-to-6-requires c κs =
     (l.0, sym b.in_bounds.ensures ∙ not-false b.in_bounds.result c.if1.false, l.1, l.2)
 
 returns-2 : tie.Need-returns-2
-unfolding next_by
+unfolding next
 returns-2 c =
     let i = c.before in
     let b = i.before in

@@ -24,7 +24,7 @@ returns : tie.Need-returns
 returns c =
     let v = c.before.before in
     let e : SenderEnd = record { state = v.before.before.before.args.self; low = v.before.before.before.args.low.now; high = v.before.before.before.args.high.now } in
-    rw c.next-refused.ensures (sym (ap seen (next-invalid _ e (sym v.valid.ensures ∙ not-true v.valid.result c.before.if1.true))))
+    rw c.next-refused.ensures (sym (ap seen (next-invalid e (sym v.valid.ensures ∙ not-true v.valid.result c.before.if1.true))))
 
 largest-frame-requires : tie.Need-largest-frame-requires
 largest-frame-requires c κs = search rules
@@ -41,7 +41,7 @@ returns-2 c =
     let m = c.before.before in
     let a = m.before.before.before.before.before.args in
     let e : SenderEnd = record { state = a.self; low = a.low.now; high = a.high.now } in
-    rw c.next-refused2.ensures (sym (ap seen (next-short _ e (ok m.before) (rw m.largest-frame.ensures at c.before.if2.true))))
+    rw c.next-refused2.ensures (sym (ap seen (next-short e (ok m.before) (rw m.largest-frame.ensures at c.before.if2.true))))
 
 enum_told : tie.Need-enum-told
 enum_told c = search rules
@@ -62,8 +62,8 @@ long c = not-below (length (start c).args.low.now) (most c) (length (start c).ar
 abbrev taken : (c : tie.Else2) → valid (agreed (start c).args.self.settings) ≡ true
 taken c = ok c.before.before
 
-tested-requires : tie.Need-tested-requires
-tested-requires c κs = let b = c.before.before in (taken b, (long b).0, (long b).1)
+checked-requires : tie.Need-checked-requires
+checked-requires c κs = let b = c.before.before in (taken b, (long b).0, (long b).1)
 
 enum-known-on : tie.Need-enum-known-on
 enum-known-on c = search rules
@@ -90,10 +90,10 @@ returns-3 c =
     let t = c.before.before.before in
     let b = t.before.before.before.before.before in
     let d = c.before.before.low-sends-on.ensures c.before.if3.true in
-    c.step5-data.ensures ∙ ap seen (sym (low-sends _ _ (taken b) (enough b) (d.0.bounds (low-is-on t)) d.0.data_left (low-is-on t) d.1))
+    c.step5-data.ensures ∙ ap seen (sym (low-sends _ (taken b) (enough b) (d.0.bounds (low-is-on t)) d.0.data_left (low-is-on t) d.1))
 
-tested-requires-2 : tie.Need-tested-requires-2
-tested-requires-2 c κs = let b = c.before.before.before.before.before.before.before in (taken b, (long b).0, (long b).1)
+checked-requires-2 : tie.Need-checked-requires-2
+checked-requires-2 c κs = let b = c.before.before.before.before.before.before.before in (taken b, (long b).0, (long b).1)
 
 enum-told-3 : tie.Need-enum-told-3
 enum-told-3 c = search rules
@@ -117,10 +117,10 @@ returns-4 c =
     let u = c.before.before.before in
     let b = u.before.before.before.before.before in
     let d = c.before.before.high-sends-on.ensures c.before.if4.true in
-    c.step5-data2.ensures ∙ ap seen (sym (high-sends _ _ (taken b) (enough b) (d.bounds (high-is-on u)) d.data_left (high-is-on u)))
+    c.step5-data2.ensures ∙ ap seen (sym (high-sends _ (taken b) (enough b) (d.bounds (high-is-on u)) d.data_left (high-is-on u)))
 
-tested-requires-3 : tie.Need-tested-requires-3
-tested-requires-3 c κs = let b = c.before.before.before.before.before.before.before in (taken b, (long b).0, (long b).1)
+checked-requires-3 : tie.Need-checked-requires-3
+checked-requires-3 c κs = let b = c.before.before.before.before.before.before.before in (taken b, (long b).0, (long b).1)
 
 returns-5 : tie.Need-returns-5
 returns-5 c = search rules
@@ -142,18 +142,18 @@ next-octet-spec =
     next-refused-requires-2
     returns-2
     enum_told
-    tested-requires
+    checked-requires
     enum-known-on
     enum-told-2
     low-sends-on-requires
     step5-data-requires
     returns-3
-    tested-requires-2
+    checked-requires-2
     enum-told-3
     high-sends-on-requires
     step5-data-requires-2
     returns-4
-    tested-requires-3
+    checked-requires-3
     returns-5
     returns-6
     returns-7)
