@@ -1,5 +1,7 @@
 // The capture reader (document 01, "Display, tally, capture program"): raw octets of a line, a line for each report on standard output. Each file that it
 // is called with is a capture of its own. It reads with document 01's settings (DECISIONS.md). A frame that is not closed prints nothing.
+#![tactic(auto)]
+
 ghost use Rattle.std.specs.Prelude.{◌≡◌, ◌≤◌, length};
 ghost use Rattle.link.specs.Receiver.{opened_receiver};
 ghost use Rattle.link.specs.declared.receiver.Opening.TheVariants.{Opened};

@@ -1,4 +1,6 @@
 // Code blocks (document 01, "Code blocks"; the COBS draft, 3 to 3.3).
+#![tactic(auto)]
+
 ghost use Rattle.std.specs.Prelude.{◌≡◌, min};
 ghost use Rattle.cobs.specs.CodeBlocks.{with_phantom, meaning, to_line, from_line, leading_zeros, leading_nonzeros, choice};
 ghost use Rattle.cobs.specs.Frames.{WholeFrames, OneReading, TheTable};

@@ -1,5 +1,7 @@
 // Counts the reports of a capture: raw octets of a line, at its end the tally's fifteen counts on standard output, a line each. Each file that it is called
 // with is a capture of its own. It reads with document 01's settings, as the capture reader does.
+#![tactic(auto)]
+
 ghost use Rattle.std.specs.Prelude.{◌≡◌};
 ghost use Rattle.link.specs.Receiver.{opened_receiver};
 ghost use Rattle.link.specs.declared.receiver.Opening.TheVariants.{Opened};

@@ -1,4 +1,6 @@
 // The check sequence, FCS (document 01, "Check sequence", and document 02, slip 1; RFC 1662, 3.1, C.2 and C.3), of 16 bits and of 32.
+#![tactic(auto)]
+
 ghost use Rattle.std.specs.Prelude.{◌≡◌};
 ghost use Rattle.fcs.specs.CheckSequence.{Check, check16, check32, feed, register, fcs, good, OctetIsEightBits, Sound, FramesEndGood, MarkedFcs, BurstsChange, BurstsOneLonger};
 

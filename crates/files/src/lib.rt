@@ -1,5 +1,7 @@
 // The files that a program is called with, and what it says of them: each argument names one; the argument '-', or no argument at all, is standard
 // input. What is read and written no contract can say. The contracts here say the rest: that there is a file, how long its name is, what is kept of the output.
+#![tactic(auto)]
+
 ghost use Rattle.std.specs.Prelude.{true, false, ◌≡◌, ◌≤◌, length};
 
 use libc::{STDERR_FILENO, STDIN_FILENO, STDOUT_FILENO};

@@ -1,5 +1,7 @@
 // The calls for C (include/kutarehopa.h, docs/CLIBRARY.md), on states that the caller keeps as 64 octets. specs/Calls.antt says what each
 // answers and leaves.
+#![tactic(auto)]
+
 ghost use Rattle.std.specs.Prelude.{◌≡◌, ◌||◌, ◌+◌, ◌*◌, ltb, length};
 ghost use Rattle.fcs.specs.CheckSequence.{check16, check32, feed};
 ghost use Rattle.link.specs.Agreed.{agreed, largest_frame, most_decoded};

@@ -1,5 +1,7 @@
 // The text of what is reported, written into a lent page (document 01, "Display, tally, capture program"). `filled` says how many octets of
 // the page, from its start, are filled; each call hands the new count back. Text that does not fit whole leaves page and count as they are.
+#![tactic(auto)]
+
 ghost use Rattle.std.specs.Prelude.{◌≡◌, ◌∷◌, ◌+◌, ◌-◌, ◌<◌, ◌≤◌, length};
 ghost use Rattle.link.specs.Answers.{report_answer};
 ghost use Rattle.lines.specs.Lines.{append, space, digit, hex_octets, decimal, text_line, packet_line, report_line, DecimalStep, ReportMost};

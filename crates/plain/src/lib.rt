@@ -1,4 +1,6 @@
 // Octet-stuffed framing, plain PPP (document 02, slip 5; RFC 1662, section 4): the maps, its sender, and what an octet says on reading.
+#![tactic(auto)]
+
 ghost use Rattle.std.specs.Prelude.{◌≡◌, ◌+◌, ◌≤◌, ◌++◌, ltb, length};
 ghost use Rattle.cobs.specs.CodeBlocks.{frame};
 ghost use Rattle.plain.specs.Area.{write};

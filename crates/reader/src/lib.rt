@@ -1,4 +1,6 @@
 // Reading on: a receiver is given whole stretches of a line, and comes back at each report (specs/Reading.antt).
+#![tactic(auto)]
+
 ghost use Rattle.std.specs.Prelude.{◌≡◌, map, min, ◌+◌, ◌≤◌, length, drop, not, ◌&&◌};
 ghost use Rattle.cobs.specs.CodeBlocks.{from_line};
 ghost use Rattle.link.specs.Answers.{report_answer, is_quiet};

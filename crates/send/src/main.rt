@@ -1,4 +1,6 @@
 // The sender as a program: packets in, the octets of the line on standard output (docs/SEND.md). Each file that it is called with has a sender of its own.
+#![tactic(auto)]
+
 ghost use Rattle.std.specs.Prelude.{◌≡◌, ◌<◌, ◌≤◌, length};
 
 use libc::{STDERR_FILENO, STDOUT_FILENO};

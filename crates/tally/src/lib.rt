@@ -1,4 +1,6 @@
 // The display of a reported packet, and the tally of reports (document 01, "Display, tally, capture program"; document 02, slips 5 and 8).
+#![tactic(auto)]
+
 ghost use Rattle.std.specs.Prelude.{◌≡◌};
 ghost use Rattle.link.specs.Answers.{refused, report_answer};
 ghost use Rattle.tally.specs.Display.{front, shown, ShowsThePacket, WithinTheArea, BeyondTheArea};

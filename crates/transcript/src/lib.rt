@@ -1,5 +1,7 @@
 // What a stretch of a line comes to: its reports as lines on a page, and as counts (document 01, "Display, tally, capture program"). A program
 // reads, calls, and writes; all else it does is here.
+#![tactic(auto)]
+
 ghost use Rattle.std.specs.Prelude.{◌≡◌, ◌≤◌, ◌<◌, length};
 ghost use Rattle.link.specs.Answers.{report_answer};
 ghost use Rattle.link.specs.Runs.{received};

@@ -1,5 +1,7 @@
 // The documents' vectors, run over the proved calls and compared. Each gives a line: ok or WRONG, what was asked, what was
 // answered and, where that is wrong, what was expected.
+#![tactic(auto)]
+
 mod answers;
 mod check_sequence;
 mod code_blocks;

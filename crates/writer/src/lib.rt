@@ -1,4 +1,6 @@
 // Writing on: a sender fills whole stretches of a line, and comes back behind each flag (specs/Writing.antt).
+#![tactic(auto)]
+
 ghost use Rattle.std.specs.Prelude.{◌≡◌, map, ◌+◌, ◌-◌, ◌≤◌, length, drop};
 ghost use Rattle.std.proofs.Math.Seq.{paste};
 ghost use Rattle.cobs.specs.CodeBlocks.{to_line};

@@ -3,12 +3,8 @@ use Rattle.fcs.specs.Notation.{◌⊕◌}
 use Rattle.fcs.specs.CheckSequence.{check16, bit_step, bit_steps, entry}
 use Rattle.fcs.proofs.Same.{same}
 use Rattle.fcs.proofs.Table.{tested}
-use Rattle.fcs.proofs.check16.table16.Statement.{statement}
-use Rattle.fcs.proofs.check16.table16.Tie as tie
+use Rattle.fcs.proofs.check16.table16.Goals as goal
 
-returns : tie.Need-returns
+pub returns : goal.returns
 unfolding ◌⊕◌ bit_step bit_steps entry same
 returns c = tested check16 _ tt
-
-pub table16-spec : {M : Type 1} → statement M
-table16-spec = tie.close (tie.spec returns)

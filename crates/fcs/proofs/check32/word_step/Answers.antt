@@ -3,16 +3,12 @@ use native.Mathlib.Omega.{arith}
 use Rattle.fcs.specs.Notation.{◌⊕◌}
 use Rattle.fcs.proofs.Linear.{gather}
 use Rattle.fcs.proofs.Words32.{word, word-steps, word_fits}
-use Rattle.fcs.proofs.check32.word_step.Statement.{statement}
-use Rattle.fcs.proofs.check32.word_step.Tie as tie
+use Rattle.fcs.proofs.check32.word_step.Goals as goal
 
-cast-result : tie.Need-overflow-cast-result
+pub overflow_cast-result : goal.overflow_cast-result
 unfolding word gather ◌⊕◌
-cast-result c = record { fits = word_fits c.args.t (omega arith) }
+overflow_cast-result c = record { fits = word_fits c.args.t (omega arith) }
 
-returns : tie.Need-returns
+pub returns : goal.returns
 unfolding word gather ◌⊕◌
 returns c = word-steps c.args.t (omega arith)
-
-pub word-step-spec : {M : Type 1} → statement M
-word-step-spec = tie.close (tie.spec cast-result returns)

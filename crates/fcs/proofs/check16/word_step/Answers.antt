@@ -3,12 +3,8 @@ use native.Mathlib.Omega.{arith}
 use Rattle.fcs.specs.Notation.{◌⊕◌}
 use Rattle.fcs.proofs.Linear.{gather}
 use Rattle.fcs.proofs.Words16.{word, word-steps}
-use Rattle.fcs.proofs.check16.word_step.Statement.{statement}
-use Rattle.fcs.proofs.check16.word_step.Tie as tie
+use Rattle.fcs.proofs.check16.word_step.Goals as goal
 
-returns : tie.Need-returns
+pub returns : goal.returns
 unfolding word gather ◌⊕◌
 returns c = word-steps c.args.t (omega arith)
-
-pub word-step-spec : {M : Type 1} → statement M
-word-step-spec = tie.close (tie.spec returns)

@@ -3,12 +3,8 @@ use Rattle.fcs.specs.Notation.{◌⊕◌}
 use Rattle.fcs.specs.CheckSequence.{check32, bit_step, bit_steps, entry}
 use Rattle.fcs.proofs.Same.{same}
 use Rattle.fcs.proofs.Table.{tested}
-use Rattle.fcs.proofs.check32.table32.Statement.{statement}
-use Rattle.fcs.proofs.check32.table32.Tie as tie
+use Rattle.fcs.proofs.check32.table32.Goals as goal
 
-returns : tie.Need-returns
+pub returns : goal.returns
 unfolding ◌⊕◌ bit_step bit_steps entry same
 returns c = tested check32 _ tt
-
-pub table32-spec : {M : Type 1} → statement M
-table32-spec = tie.close (tie.spec returns)
