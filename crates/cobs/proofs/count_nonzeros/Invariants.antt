@@ -1,0 +1,12 @@
+-- `cobs::count_nonzeros` meets its contract. The loop's invariant: i and what is counted from there on make up the count.
+use mathlib.Core.Path.{◌≡◌}
+use Prim.Native.Nat.{◌+◌, ◌-◌, ◌≤◌}
+use lib.ListN.{length, drop}
+use Rattle.cobs.specs.CodeBlocks.{with_phantom, leading_nonzeros}
+use Rattle.cobs.proofs.count_nonzeros.Given as goal
+
+abbrev pub invariant-loop-i : goal.invariant-loop-i
+invariant-loop-i l = (l.i ≤ 207) × (l.i ≤ length l.rest) × (leading_nonzeros 207 (with_phantom l.rest) ≡ l.i + leading_nonzeros (207 - l.i) (drop l.i (with_phantom l.rest)))
+
+abbrev pub decreases-loop-i : goal.decreases-loop-i
+decreases-loop-i l = 207 - l.i
