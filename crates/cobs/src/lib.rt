@@ -10,7 +10,7 @@ ghost use Rattle.cobs.specs.Shortest.{Shortest, CoversMost, OneListWithoutZxe, Z
 pub const FLAG: u8 = 0x7e;
 
 // What a code says.
-#[derive(Drop)]
+#[derive(Clone, Copy)]
 pub enum Meaning {
     // so many data octets follow, and so many zeros stand after them
     InTable { nonzeros: u8, zeros: u8 },
@@ -20,7 +20,7 @@ pub enum Meaning {
 }
 
 // The block that a sender chooses: its code, how many data octets follow it, and how many zeros stand after them.
-#[derive(Drop)]
+#[derive(Clone, Copy)]
 pub struct Choice {
     pub code: u8,
     pub nonzeros: u8,

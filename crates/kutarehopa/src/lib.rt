@@ -30,7 +30,7 @@ mod sender;
 
 // How far a stretch of a line was read or written: the answer of the last call for it, and how many octets were used or written.
 #[repr(C)]
-#[derive(Drop)]
+#[derive(Clone, Copy)]
 pub struct Stretch {
     pub answer: u32,
     pub octets: usize,

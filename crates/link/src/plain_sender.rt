@@ -8,7 +8,7 @@ use crate::{Settings, receiver};
 use plain::Sent;
 
 // The state: the width of the check, the limit, and the sending map, 256 marks in 32 octets.
-#[derive(Drop)]
+#[derive(Clone, Copy)]
 pub struct PlainSender {
     pub width: u8,
     pub limit: u16,
@@ -16,7 +16,7 @@ pub struct PlainSender {
 }
 
 // The sender is to be used only where the receiver is opened.
-#[derive(Drop)]
+#[derive(Clone, Copy)]
 pub struct PairOpening {
     pub sender: PlainSender,
     pub receiver: Opening,

@@ -9,21 +9,21 @@ ghost use Rattle.link.specs.SenderParts.{LaneReady, DataDue, SendsOn};
 use crate::Settings;
 
 // A lane is document 01's word for one of the sender's two places for a packet.
-#[derive(Drop)]
+#[derive(Clone, Copy)]
 pub enum Lane {
     Low,
     High,
 }
 
 // The lane on the line.
-#[derive(Drop)]
+#[derive(Clone, Copy)]
 pub enum OnLine {
     NoLane,
     Sending(Lane),
 }
 
 // What the state has of a lane.
-#[derive(Drop)]
+#[derive(Clone, Copy)]
 pub struct LaneState {
     // the length of its frame; 0: the lane is empty
     pub length: u16,
@@ -33,7 +33,7 @@ pub struct LaneState {
 
 // The state. Its items are listed in specs/Sender.antt as document 01 has them; here they stand in an order that took few machine
 // instructions among those tried (docs/LANDINGS.md).
-#[derive(Drop)]
+#[derive(Clone, Copy)]
 pub struct Sender {
     // the settings octet, the width of the check, and the limit
     pub settings: Settings,
@@ -51,27 +51,27 @@ pub struct Sender {
     pub cut: bool,
 }
 
-#[derive(Drop)]
+#[derive(Clone, Copy)]
 pub enum Opening {
     Opened(Sender),
     // 23 or 3
     Refused(u8),
 }
 
-#[derive(Drop)]
+#[derive(Clone, Copy)]
 pub enum LoadAnswer {
     Done,
     // 1 to 4
     Refused(u8),
 }
 
-#[derive(Drop)]
+#[derive(Clone, Copy)]
 pub struct Loaded {
     pub state: Sender,
     pub answer: LoadAnswer,
 }
 
-#[derive(Drop)]
+#[derive(Clone, Copy)]
 pub enum NextAnswer {
     Octet(u8),
     Idle,
@@ -79,7 +79,7 @@ pub enum NextAnswer {
     Refused(u8),
 }
 
-#[derive(Drop)]
+#[derive(Clone, Copy)]
 pub struct Sent {
     pub state: Sender,
     pub answer: NextAnswer,

@@ -100,7 +100,7 @@ pub fn marks_ok(marks: &[u8; 32]) -> bool
 
 // ---- the sender
 
-#[derive(Drop)]
+#[derive(Clone, Copy)]
 pub enum Sent {
     // so many octets
     Written(usize),
@@ -195,7 +195,7 @@ pub fn send(packet: &[u8], wide: bool, marks: &[u8; 32], area: &mut [u8]) -> Sen
 // ---- the receiver
 
 // What an octet that is no flag says on reading.
-#[derive(Drop)]
+#[derive(Clone, Copy)]
 pub enum Taken {
     Removed,
     // an escape is open from now on

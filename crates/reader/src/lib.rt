@@ -13,7 +13,7 @@ ghost use Rattle.reader.specs.NothingLost.{AsTheCalls, FirstThenRest, StretchesJ
 use link::receiver::{Mode, Receiver, Report};
 
 // How far a stretch was read: the answer to the last octet used, the receiver after it, and how many octets were used.
-#[derive(Drop)]
+#[derive(Clone, Copy)]
 pub struct Reached {
     pub state: Receiver,
     pub report: Report,
@@ -91,7 +91,7 @@ fn copy_data(octets: &[u8], area: &mut [u8], at: usize)
 }
 
 // How many octets were used, all Quiet, and the counts of the receiver after them. Nothing else in it has changed.
-#[derive(Drop)]
+#[derive(Clone, Copy)]
 struct Passed {
     decoded: u16,
     left: u8,

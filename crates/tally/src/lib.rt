@@ -68,7 +68,7 @@ const CHANGED: u8 = 21;
 // A count at its largest stays.
 pub const LARGEST: u64 = 0xffff_ffff_ffff_ffff;
 
-#[derive(Drop)]
+#[derive(Clone, Copy)]
 pub struct Tally {
     pub counts: [u64; COUNTS],
 }

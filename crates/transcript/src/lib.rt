@@ -26,7 +26,7 @@ pub fn longest_line(settings: Settings) -> usize
 }
 
 // The receiver after the octets used, how many octets of the page are filled, and how many of the stretch were used.
-#[derive(Drop)]
+#[derive(Clone, Copy)]
 pub struct Printed {
     pub state: Receiver,
     pub filled: usize,
@@ -124,7 +124,7 @@ pub fn print(
 // ---- counts
 
 // The receiver after a stretch, and the counts.
-#[derive(Drop)]
+#[derive(Clone, Copy)]
 pub struct Counted {
     pub state: Receiver,
     pub counts: Tally,

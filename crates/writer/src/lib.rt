@@ -11,7 +11,7 @@ ghost use Rattle.writer.specs.Pieces.{HoweverCut, WherePiecesEnd, OnTheLine};
 use link::sender::{Lane, NextAnswer, OnLine, Sender};
 
 // How far a line was filled, and the sender after it.
-#[derive(Drop)]
+#[derive(Clone, Copy)]
 pub struct FilledLine {
     pub state: Sender,
     pub filled: usize,
