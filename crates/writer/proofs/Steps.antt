@@ -96,13 +96,13 @@ module _ (e : SenderEnd) (line : List ℕ) (i : ℕ) (l : i < length line) (a : 
       → from_place i line (write_on (length line - i) e) ≡ record { state = t; line = set line i x; filled = i + 1 }
   at_flag x q f = rw (written, q, f) (one_more i line x _ l ∙ stays (i + 1) (set line i x) t)
 
-  -- the second kind of answer or the third
-  pub stops : OneOf (1 ∷ 2 ∷ []) (tag_of (declared enum) a) → from_place i line (write_on (length line - i) e) ≡ record { state = e.state; line = line; filled = i }
+  -- any answer but an octet
+  pub stops : ((x : ℕ) → a ≡ Octet x → ⊥) → from_place i line (write_on (length line - i) e) ≡ record { state = e.state; line = line; filled = i }
   stops k = rw (written, other a k) (stays i line e.state)
     where
-      other : (b : NextAnswer) → OneOf (1 ∷ 2 ∷ []) (tag_of (declared enum) b)
+      other : (b : NextAnswer) → ((x : ℕ) → b ≡ Octet x → ⊥)
           → by_answer (next_answer b) e.state t (write_on (length line - (i + 1)) (with t e)) ≡ writes_nothing e.state
-      other (Octet x) k = ⊎_elim (λ z. absurd (omega (arith, z))) (λ z. absurd (omega (arith, z))) k
+      other (Octet x) k = absurd (k x refl)
       other Idle k = refl
       other (Refused n) k = refl
 
