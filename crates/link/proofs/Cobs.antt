@@ -1,11 +1,11 @@
 -- The receiver while COBS is read: document 01's own, which looks at neither mode nor map. And the whole receiver, which is that one wherever
 -- COBS is read and no plain reading begins.
-use mathlib.Core.Path.{◌≡◌, refl, sym, ap, ◌∙◌}
-use mathlib.Core.Bool.{Bool, true, false, not, ◌&&◌, ◌||◌}
+use mathlib.Core.Path.{◌≡◌, refl, sym}
+use mathlib.Core.Bool.{true, false}
 use mathlib.Core.List.{List, [], ◌∷◌}
 use Prim.Native.Nat.{ℕ}
 use Rattle.link.specs.Agreed.{Agreed, agreed, most_decoded}
-use Rattle.link.specs.Receiver.{Mode, kept_off, cobs, plain, escape_open, Receiver, ReceiverEnd, Receive, escape_over, is_off, is_plain, is_escaped, begins_plain, begin_plain, work, quietly, receive_cobs, receive_plain, receive}
+use Rattle.link.specs.Receiver.{Mode, kept_off, cobs, plain, escape_open, ReceiverEnd, Receive, escape_over, is_off, is_plain, is_escaped, begins_plain, begin_plain, work, quietly, receive_cobs, receive_plain, receive}
 use Rattle.link.specs.ReceiverParts.{ReceiverReady}
 use Rattle.link.proofs.Tests.{none-short, true-false}
 

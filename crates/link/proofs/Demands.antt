@@ -16,9 +16,9 @@ use Rattle.link.specs.Sender.{Lane, low, high, OnLine, no_lane, sending, LaneSta
 use Rattle.link.specs.Receiver.{PlainReading, reading_off, reading_on, ReceiverEnd, Receive, is_held, is_plain, receive}
 use Rattle.link.specs.Receiver as receiver
 use Rattle.link.specs.ReceiverParts.{ReceiverReady}
-use Rattle.link.specs.Runs.{receives, received, Station, Written, SenderCall, loading, next_octet, fresh_station, writes, written, written_octets, at_true, at_false, packet_in, refusal_in, refusal_of, stands_for, present, refusals_in, under_way, ends_its_frame, aside_after, left_aside, replaces_after, AllArrive, ExpectedReport, AllAsExpected, closed_by, run, after_load, after_next}
+use Rattle.link.specs.Runs.{received, Station, Written, SenderCall, loading, next_octet, fresh_station, writes, written, written_octets, at_true, at_false, packet_in, refusal_in, refusal_of, stands_for, present, refusals_in, under_way, ends_its_frame, aside_after, left_aside, replaces_after, AllArrive, ExpectedReport, AllAsExpected, closed_by, run, after_load, after_next}
 use Rattle.link.specs.Demands.{fresh_receiver, PacketsComeThrough, SoundLine, AfterChosenFlag, frame_began_ff, Demand3}
-use Rattle.link.proofs.Cobs.{cobs_receive, cobs_receives, in-cobs}
+use Rattle.link.proofs.Cobs.{cobs_receives, in-cobs}
 use Rattle.link.proofs.Agreed.{sound-check}
 use Rattle.link.proofs.ReceiverBounds.{Ready, fresh_in, in_bounds_lem}
 use Rattle.link.proofs.Whole.{ready_of, passes}

@@ -1,6 +1,6 @@
 -- What holds of every single call.
 use mathlib.Core.Path.{◌≡◌, refl, sym, ap, subst, ◌∙◌}
-use mathlib.Core.Bool.{Bool, true, false, cond, not, ◌&&◌, ◌||◌, and-false}
+use mathlib.Core.Bool.{Bool, true, false, cond, not, ◌&&◌, and-false}
 use mathlib.Core.List.{List, [], ◌∷◌, ◌++◌}
 use mathlib.Core.Logic.{◌⊎◌, inl, inr, ⊎_elim}
 use Prim.Native.Nat.{ℕ, ◌+◌, ◌-◌, ◌≤◌, ◌<◌}
@@ -15,14 +15,14 @@ use Rattle.cobs.specs.declared.Meaning.{Meaning}
 use Rattle.cobs.specs.declared.Meaning.TheVariants.{InTable, NotAgreed, NoCode}
 use Rattle.cobs.proofs.Tests.{branch, decide, and_left, and_right}
 use Rattle.cobs.proofs.Exchange.{from-line}
-use Rattle.link.specs.Agreed.{Settings, Agreed, agreed, least_frame, most_decoded, valid}
+use Rattle.link.specs.Agreed.{Settings, Agreed, agreed, least_frame, most_decoded}
 use Rattle.link.specs.Answers.{Answer, done, octet, idle, quiet, packet, held, refused}
 use Rattle.link.specs.Sender.{Lane, low, high, OnLine, no_lane, Sender, SenderEnd, closes, Step, empty_lane, lane_state, out_answer, put_frame, load, next, Load}
 use Rattle.link.specs.Receiver.{Fragment, nothing_held, holds, PlainReading, reading_off, reading_on, Receiver, Working, ReceiverEnd, Receive, Ended, is_no_block, is_d0, is_plain, begins_plain, write, step4_refuse, step3_write, step3_decode, step3_data, step2_by_meaning, step2_code, step1_resume_held, step1_d1, step1_first_octet, steps_1_to_4, step5_end, step5_without_phantom, step5_flag, at_flag, plain_octet, begin_plain, at_plain_flag, work, aside, put_back, flagged, receive}
 use Rattle.link.specs.Receiver as receiver
 use Rattle.link.specs.ReceiverParts.{ReceiverReady}
 use Rattle.link.specs.EachCall.{RefusedChangesNothing, IdleChangesNothing, Loads, DoneLoads, SettingsStay, ClosedIsEmpty, TakesIn, BlockOver, Resumes, HeldThen, NotHeldThen, EndsFrame, ReceivesSo, ValidFirst, AreasThenState}
-use Rattle.link.proofs.Tests.{if-so, if-not, true-false, not-below, one-short, none-short}
+use Rattle.link.proofs.Tests.{if-so, if-not, true-false, one-short, none-short}
 use Rattle.link.proofs.Way.{Way, ends, cuts, warns, goes, sender, Turn, cut-due, idles, resumes-low, begins-high, begins-low, high-on, low-on, by_next}
 use Rattle.link.proofs.Agreed.{valid-width, valid-limit}
 use Rattle.link.proofs.Write.{length-write, take-write}

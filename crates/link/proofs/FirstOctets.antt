@@ -1,17 +1,16 @@
 -- No frame that the sender writes begins FF.
-use mathlib.Core.Path.{◌≡◌, refl, sym, ap, ◌∙◌}
-use mathlib.Core.Bool.{Bool, true, false, ◌&&◌, ◌||◌}
+use mathlib.Core.Path.{◌≡◌, refl, sym, ◌∙◌}
+use mathlib.Core.Bool.{Bool, true, false}
 use mathlib.Core.List.{List, [], ◌∷◌}
 use Prim.Native.Nat.{ℕ}
 use native.Mathlib.Omega.{arith}
 use borrow.Author.Tests.{ne_eqb}
-use lib.Dec.{eqb}
 use lib.ListN.{drop}
 use Rattle.cobs.specs.CodeBlocks.{flag, to_line, choice}
 use Rattle.cobs.proofs.Exchange.{no_flag, to-other}
 use Rattle.cobs.proofs.Chosen.{code_below}
 use Rattle.link.specs.Agreed.{Settings, Agreed}
-use Rattle.link.specs.Sender.{Lane, low, high, OnLine, no_lane, sending, LaneState, Sender, Out, closes, breaks_off, sends, sends_nothing, refuses, Step, lane_state, lane_d, next, put_frame}
+use Rattle.link.specs.Sender.{Lane, low, high, OnLine, no_lane, sending, LaneState, Sender, Out, closes, breaks_off, sends, sends_nothing, refuses, Step, lane_state, next, put_frame}
 use Rattle.link.specs.Runs.{Station, Written, writes, written, written_octets, after_load, after_next, SenderCall, loading, next_octet}
 use Rattle.link.specs.Demands.{frame_began_ff}
 use Rattle.link.proofs.Tests.{true-false}

@@ -12,7 +12,7 @@ use Rattle.cobs.proofs.Exchange.{no_flag, from-line, turned-back}
 use Rattle.cobs.proofs.Table.{numbers}
 use Rattle.link.specs.Agreed.{Settings, Agreed, largest_frame, most_decoded}
 use Rattle.link.specs.Answers.{Answer, held, refused}
-use Rattle.link.specs.Sender.{Lane, low, high, OnLine, no_lane, sending, LaneState, Out, closes, breaks_off, sends, sends_nothing, refuses, Step, lane_d, loaded, next, put_frame}
+use Rattle.link.specs.Sender.{Lane, low, high, OnLine, no_lane, sending, LaneState, Out, closes, breaks_off, sends, sends_nothing, refuses, Step, lane_d, next, put_frame}
 use Rattle.link.specs.Receiver.{Fragment, nothing_held, Working, ReceiverEnd, Receive, is_held, work, aside, put_back, steps_1_to_4}
 use Rattle.link.specs.Runs.{Lanes, Station, lane_packet, after_load, after_step, after_next, Written, ends_its_frame, aside_after, replaces_after, Arrives, ExpectedReport}
 use Rattle.link.proofs.Cobs.{cobs_receive}

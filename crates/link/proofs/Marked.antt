@@ -24,7 +24,6 @@ use Rattle.link.specs.Receiver.{reading_off, Working, ReceiverEnd, Receive, Ende
 use Rattle.link.specs.Receiver as receiver
 use Rattle.link.specs.ReceiverParts.{ReceiverReady}
 use Rattle.link.specs.Runs.{after_load, after_next, run, written, receives, not_quiet, received, under_way, left_aside}
-use Rattle.link.specs.Demands.{fresh_receiver}
 use Rattle.link.specs.Marked.{bits16, Case, refused_ten, Says, receiver_area, cases, MarkedCases, AtWork, fresh_end}
 use Rattle.link.specs.Examples.{agreeing, bits32}
 use Rattle.link.proofs.Tests.{if-so, if-not, true-false}

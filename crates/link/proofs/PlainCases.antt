@@ -1,23 +1,20 @@
 -- Plain reading in each of its cases.
-use mathlib.Core.Path.{◌≡◌, refl, sym, ap, subst, ◌∙◌}
-use mathlib.Core.Bool.{Bool, true, false, cond, not, ◌&&◌, ◌||◌}
+use mathlib.Core.Path.{◌≡◌, refl, sym, ap, ◌∙◌}
+use mathlib.Core.Bool.{true, false, not, ◌&&◌, ◌||◌}
 use mathlib.Core.List.{List, [], ◌∷◌}
-use mathlib.Core.Logic.{inl}
 use Prim.Native.Nat.{ℕ, ◌+◌, ◌≤◌, ◌<◌}
 use native.Mathlib.Omega.{arith}
-use borrow.Author.Tests.{ltb-true, ltb-false, le-leb, eqb-true, eqb-false, ne_eqb, not-true, not-false}
+use borrow.Author.Tests.{ltb-true, ltb-false, eqb-true, eqb-false, ne_eqb, not-true, not-false}
 use lib.Dec.{ltb, eqb}
-use lib.ListN.{length}
 use Rattle.cobs.proofs.Tests.{branch, decide, and_left, and_right}
 use Rattle.plain.specs.declared.Taken.{Taken}
 use Rattle.plain.specs.declared.Taken.TheVariants.{Removed, Escape, Data}
 use Rattle.plain.specs.Stuffing.{taken}
-use Rattle.link.specs.Agreed.{Agreed, agreed, largest_frame, most_decoded}
+use Rattle.link.specs.Agreed.{Agreed, largest_frame, most_decoded}
 use Rattle.link.specs.Answers.{quiet, refused}
-use Rattle.link.specs.Receiver.{nothing_held, no_block, Mode, kept_off, cobs, plain, escape_open, Receiver, Working, Ended, is_no_block, is_off, is_plain, is_escaped, let_go, with_mode, in_bounds, mode_ok, no_block_open, step4_refuse, step3_write, step5_end, step5_without_phantom, in_plain_frame, plain_data, plain_taken, plain_octet, plain_flag, at_plain_flag, begin_plain}
-use Rattle.link.proofs.Tests.{or_cases, and_intro, true-false, false-true}
-use Rattle.link.proofs.Cobs.{not-escaped}
-use Rattle.link.proofs.ReceiverBounds.{HeldOk, FreshOk, Remembered, Counts, counts, out-fresh, fresh_ok_lem, is_none, ok-in-bounds}
+use Rattle.link.specs.Receiver.{no_block, Mode, kept_off, cobs, plain, escape_open, Receiver, Working, Ended, is_no_block, is_off, is_plain, is_escaped, let_go, with_mode, in_bounds, mode_ok, no_block_open, step4_refuse, step3_write, step5_end, step5_without_phantom, in_plain_frame, plain_data, plain_taken, plain_octet, plain_flag, at_plain_flag, begin_plain}
+use Rattle.link.proofs.Tests.{or_cases, true-false, false-true}
+use Rattle.link.proofs.ReceiverBounds.{HeldOk, FreshOk, Remembered, counts, out-fresh, fresh_ok_lem, is_none, ok-in-bounds}
 
 -- ---- an octet that is no flag
 

@@ -1,34 +1,34 @@
 -- Plain frames, one by one: what each comes to, by its octets without their stuffing.
 use mathlib.Core.Path.{◌≡◌, refl, sym, ap, ap₂, subst, ◌∙◌}
-use mathlib.Core.Bool.{Bool, true, false, cond, not, ◌&&◌, ◌||◌}
+use mathlib.Core.Bool.{Bool, true, false, cond, not, ◌||◌}
 use mathlib.Core.List.{List, [], ◌∷◌, ◌++◌, map, append_assoc, append-nil, Memᴰ}
-use mathlib.Core.Option.{none, some}
-use Prim.Native.Nat.{ℕ, suc, ◌+◌, ◌-◌, ◌≤◌, ◌<◌}
+use mathlib.Core.Option.{some}
+use Prim.Native.Nat.{ℕ, ◌+◌, ◌-◌, ◌≤◌, ◌<◌}
 use native.Mathlib.Omega.{arith}
-use borrow.Author.Tests.{ltb-true, ltb-false, lt-ltb, le-ltb, eq-eqb, ne_eqb, eqb-true, eqb-false}
-use lib.Dec.{ltb, eqb}
+use borrow.Author.Tests.{ltb-true, ltb-false, lt-ltb, le-ltb, eq-eqb, ne_eqb}
+use lib.Dec.{ltb}
 use lib.ListN.{length, take, replicate, length-append}
 use lib.Seq.{take-take, length-take-le}
 use Rattle.fcs.specs.CheckSequence.{good}
 use Rattle.cobs.specs.CodeBlocks.{flag}
-use Rattle.cobs.proofs.Tests.{branch, decide}
+use Rattle.cobs.proofs.Tests.{decide}
 use Rattle.plain.specs.declared.Taken.{Taken}
 use Rattle.plain.specs.declared.Taken.TheVariants.{Removed, Escape, Data}
 use Rattle.plain.specs.Maps.{removed}
 use Rattle.plain.specs.Stuffing.{taken}
-use Rattle.plain.specs.ReadBack.{Unstuffed, unstuffed, after, kept}
+use Rattle.plain.specs.ReadBack.{unstuffed, kept}
 use Rattle.plain.proofs.Laws.{unstuffed-nil, unstuffed-cons, taken-removed, taken-kept, kept-nil, kept-removed, kept-other}
 use Rattle.link.specs.Agreed.{Agreed, agreed, least_frame, largest_frame, most_decoded}
 use Rattle.link.specs.Answers.{Answer, quiet, packet, refused}
-use Rattle.link.specs.Receiver.{Fragment, no_block, Mode, plain, escape_open, Receiver, Working, ReceiverEnd, Receive, Ended, fresh, escape_over, is_plain, is_escaped, step4_refuse, step3_write, step5_end, step5_without_phantom, frame_over, let_go, with_mode, with_decoded, kept_off, cobs, in_plain_frame, plain_data, plain_taken, plain_octet, plain_flag, at_plain_flag, work, put_back, flagged, quietly, area_of, receive}
+use Rattle.link.specs.Receiver.{no_block, Mode, plain, escape_open, Receiver, Working, ReceiverEnd, Receive, Ended, fresh, escape_over, is_plain, is_escaped, step4_refuse, step3_write, step5_end, step5_without_phantom, frame_over, let_go, with_mode, with_decoded, kept_off, cobs, in_plain_frame, plain_data, plain_taken, plain_octet, plain_flag, at_plain_flag, work, put_back, flagged, quietly, area_of, receive}
 use Rattle.link.specs.ReceiverParts.{ReceiverReady}
-use Rattle.link.specs.Runs.{receives, received, packet_in, stands_for}
+use Rattle.link.specs.Runs.{receives, received, stands_for}
 use Rattle.link.specs.Demands.{ReportAndPacket, report_and_packet}
-use Rattle.link.specs.PlainReading.{quiet_answer, told, refusal, frame_report, is_empty, OutOfPlainFrame, FrameIsReported, FrameByFrame}
+use Rattle.link.specs.PlainReading.{quiet_answer, told, refusal, frame_report, is_empty, FrameByFrame}
 use Rattle.link.proofs.Tests.{if-so, if-not, true-false}
 use Rattle.link.proofs.Write.{take-write}
 use Rattle.link.proofs.Cobs.{in-plain}
-use Rattle.link.proofs.ReceiverBounds.{counts, out-fresh, by_end}
+use Rattle.link.proofs.ReceiverBounds.{counts, out-fresh}
 use Rattle.link.proofs.PlainCases.{plain-bounds}
 use Rattle.link.proofs.Whole.{passes, fit-plain}
 use Rattle.link.proofs.ReadOn.{skips, found, put-back-same}

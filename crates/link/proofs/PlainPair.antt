@@ -1,39 +1,39 @@
 -- The plain sender, the pair, and that its frames come through.
-use mathlib.Core.Path.{◌≡◌, refl, sym, ap, ap₂, subst, ◌∙◌}
+use mathlib.Core.Path.{◌≡◌, refl, sym, ap, ap₂, ◌∙◌}
 use mathlib.Core.Bool.{Bool, true, false, cond, not, ◌||◌, or-true}
-use mathlib.Core.List.{List, [], ◌∷◌, ◌++◌, map, flat_map, append_assoc, append-nil, Memᴰ}
+use mathlib.Core.List.{List, [], ◌∷◌, ◌++◌, map, flat_map, append_assoc, Memᴰ}
 use mathlib.Core.Logic.{◌⊎◌, ⊎_elim}
 use Prim.Native.Nat.{ℕ, ◌+◌, ◌-◌, ◌≤◌, ◌<◌}
 use native.Mathlib.Omega.{arith}
-use borrow.Author.Tests.{ltb-false, lt-ltb, le-ltb, eqb-false, ne_eqb}
+use borrow.Author.Tests.{ltb-false, lt-ltb, le-ltb, ne_eqb}
 use lib.Dec.{ltb, eqb}
-use lib.ListN.{length, take, drop, replicate, length-append}
+use lib.ListN.{length, take, replicate, length-append}
 use lib.Seq.{take-append_seam}
-use Rattle.fcs.specs.CheckSequence.{Check, fcs, good}
+use Rattle.fcs.specs.CheckSequence.{Check, fcs}
 use Rattle.fcs.proofs.Laws.{good-frame}
 use Rattle.cobs.specs.CodeBlocks.{flag, frame}
 use Rattle.cobs.proofs.Tests.{branch, decide}
 use Rattle.plain.specs.declared.Sent.TheVariants.{Written as written, Refused as refused_send}
-use Rattle.plain.specs.Maps.{escape, removed, marked, refused_pair, marks_ok}
-use Rattle.plain.specs.Stuffing.{Send, stuffed, line, send}
+use Rattle.plain.specs.Maps.{removed, marked, refused_pair, marks_ok}
+use Rattle.plain.specs.Stuffing.{Send, stuffed}
 use Rattle.plain.specs.ReadBack.{Unstuffed, unstuffed, ReadsBack, kept}
-use Rattle.plain.proofs.Laws.{line-is, stuffed-cons, unmarked-octet, sends, too_short, pair-lacks, pair-wrongly, framing-lacks, framing-ok, not-removed, taken-plainly, taken-removed, unstuffed-nil, unstuffed-cons, kept-nil, kept-removed, kept-other}
+use Rattle.plain.proofs.Laws.{line-is, stuffed-cons, unmarked-octet, sends, pair-lacks, pair-wrongly, framing-lacks, framing-ok, not-removed, taken-plainly, taken-removed, unstuffed-nil, kept-nil, kept-removed, kept-other}
 use Rattle.plain.proofs.ReadBack.{sent-reads-back, removed-leave-no-trace}
-use Rattle.link.specs.Agreed.{Settings, Agreed, agreed, least_packet, valid_width, valid_limit, valid, least_frame, largest_frame, most_decoded}
+use Rattle.link.specs.Agreed.{Settings, Agreed, agreed, least_packet, valid_width, valid_limit, valid, least_frame, largest_frame}
 use Rattle.link.specs.Answers.{quiet, is_quiet}
-use Rattle.link.specs.Receiver.{cobs, plain, reading_on, Opening, opened, opened_receiver, Receiver, ReceiverEnd, Receive, Working, fresh, no_block, nothing_held, is_plain, is_escaped, in_frame, with_mode, with_decoded, write, plain_data, plain_octet, plain_taken, work, put_back, quietly, receive}
+use Rattle.link.specs.Receiver.{cobs, plain, reading_on, Opening, opened, opened_receiver, Receiver, ReceiverEnd, Receive, Working, no_block, is_plain, is_escaped, in_frame, with_mode, with_decoded, write, plain_data, plain_octet, plain_taken, work, quietly, receive}
 use Rattle.link.specs.ReceiverParts.{ReceiverReady}
 use Rattle.link.specs.PlainSender.{PlainSender, plain_agreed, plain_line, plain_send, open_pair}
 use Rattle.link.specs.Runs.{receives, received, not_quiet}
-use Rattle.link.specs.Demands.{fresh_receiver, ReportAndPacket, report_and_packet, cleared, OutOfCobsFrame}
-use Rattle.link.specs.PlainReading.{AllowedLength, PlainSends, PairOpens, quiet_answer, told, frame_report, is_empty, OutOfPlainFrame, FrameIsReported, NoTrace, RemovedOctets, answers_to, ComeThrough, AllAllowedLengths, OfPair, PlainFrames}
-use Rattle.link.proofs.Tests.{if-so, if-not, one-short, none-short, true-false}
+use Rattle.link.specs.Demands.{ReportAndPacket, report_and_packet, cleared, OutOfCobsFrame}
+use Rattle.link.specs.PlainReading.{AllowedLength, PlainSends, PairOpens, quiet_answer, told, frame_report, is_empty, OutOfPlainFrame, FrameIsReported, RemovedOctets, answers_to, ComeThrough, AllAllowedLengths, OfPair, PlainFrames}
+use Rattle.link.proofs.Tests.{if-so, if-not, true-false}
 use Rattle.link.proofs.Agreed.{valid-width, valid-limit, limit-at-least, sound-check}
 use Rattle.link.proofs.Cobs.{in-plain}
 use Rattle.link.proofs.ReadOn.{put-back-same}
 use Rattle.link.proofs.PlainCases.{plain-bounds, plain-in-bounds}
 use Rattle.link.proofs.Whole.{passes}
-use Rattle.link.proofs.Stays.{receive-settings, run-settings, fresh-settings, mode-stays}
+use Rattle.link.proofs.Stays.{receive-settings, run-settings, mode-stays}
 use Rattle.link.proofs.Follow.{frame-long}
 use Rattle.link.proofs.PlainFrames.{frame-by-frame, mode-by}
 use Rattle.link.proofs.Restart.{restart}

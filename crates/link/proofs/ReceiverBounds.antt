@@ -6,7 +6,7 @@ use mathlib.Core.List.{List, [], ◌∷◌}
 use mathlib.Core.Logic.{◌⊎◌, inl, inr, ⊎_elim}
 use Prim.Native.Nat.{ℕ, ◌+◌, ◌-◌, ◌^◌, ◌≤◌, ◌<◌}
 use native.Mathlib.Omega.{arith}
-use borrow.Author.Tests.{ltb-true, ltb-false, leb-true, eqb-true, eqb-false, lt-ltb, le-ltb, le-leb, eq-eqb, ne_eqb, not-true, not-false}
+use borrow.Author.Tests.{ltb-true, ltb-false, leb-true, eqb-true, eqb-false, lt-ltb, le-leb, eq-eqb, ne_eqb, not-true, not-false}
 use lib.Dec.{leb, ltb, eqb}
 use lib.ListN.{length, take, replicate, length-replicate}
 use Rattle.fcs.specs.CheckSequence.{Sound, width, ones, register, good}
@@ -18,7 +18,7 @@ use Rattle.cobs.proofs.Tests.{branch, decide, and_left, and_right}
 use Rattle.cobs.proofs.Table.{read-row, numbers}
 use Rattle.link.specs.Agreed.{Settings, Agreed, agreed, valid, least_frame, most_decoded}
 use Rattle.link.specs.Answers.{Answer, done, octet, idle, quiet, packet, held, refused}
-use Rattle.link.specs.Receiver.{Fragment, nothing_held, holds, LastBlock, no_block, block_d0, other_block, Mode, Receiver, Working, ReceiverEnd, Receive, Ended, fresh, out_of_frame, with_due, step2_begin_block, is_no_block, is_d0, is_off, is_plain, is_escaped, let_go, held_ok, no_block_open, fresh_ok, last_block_ok, refusal_ok, mode_ok, in_bounds, step4_remember, step4_refuse, step3_write, step3_decode, step3_data, last_block, step2_by_meaning, step2_code, step1_resume_held, step1_d1, step1_first_octet, steps_1_to_4, frame_over, step5_end, step5_hold, step5_without_phantom, step5_flag, at_flag, area_of, work, aside, put_back, flagged}
+use Rattle.link.specs.Receiver.{Fragment, nothing_held, holds, LastBlock, no_block, block_d0, other_block, Mode, Receiver, Working, ReceiverEnd, Receive, Ended, fresh, out_of_frame, with_due, step2_begin_block, is_no_block, is_d0, is_off, is_plain, let_go, held_ok, fresh_ok, last_block_ok, refusal_ok, mode_ok, in_bounds, step4_remember, step4_refuse, step3_write, step3_decode, step3_data, last_block, step2_by_meaning, step2_code, step1_resume_held, step1_d1, step1_first_octet, steps_1_to_4, frame_over, step5_end, step5_hold, step5_without_phantom, step5_flag, at_flag, area_of, work, aside, put_back, flagged}
 use Rattle.link.proofs.Agreed.{sound-check}
 use Rattle.link.proofs.Cobs.{cobs_receive, not-escaped}
 use Rattle.link.proofs.Tests.{if-so, if-not, ands, true-false, false-true, or_cases}

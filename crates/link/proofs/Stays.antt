@@ -1,9 +1,8 @@
 -- The settings and the map stay, and what becomes of the mode.
-use mathlib.Core.Path.{◌≡◌, refl, sym, ap, subst, ◌∙◌}
-use mathlib.Core.Bool.{Bool, true, false, not, ◌&&◌, ◌||◌, and-false}
+use mathlib.Core.Path.{◌≡◌, refl, sym, ap, ◌∙◌}
+use mathlib.Core.Bool.{true, false, not, ◌&&◌, ◌||◌, and-false}
 use mathlib.Core.List.{List, [], ◌∷◌}
 use Prim.Native.Nat.{ℕ}
-use native.Mathlib.Omega.{arith}
 use lib.Dec.{ltb, eqb}
 use lib.ListN.{length}
 use Rattle.fcs.specs.Notation.{if◌then◌else◌}
@@ -11,7 +10,7 @@ use Rattle.cobs.specs.CodeBlocks.{flag, from_line}
 use Rattle.cobs.proofs.Tests.{branch, decide}
 use Rattle.link.specs.Agreed.{Settings, Agreed, agreed, valid, most_decoded}
 use Rattle.link.specs.Answers.{refused}
-use Rattle.link.specs.Receiver.{Mode, kept_off, cobs, plain, escape_open, PlainReading, reading_off, reading_on, Receiver, Working, Ended, ReceiverEnd, Receive, escape_over, is_off, is_plain, in_bounds, plain_octet, begin_plain, at_plain_flag, begins_plain, work, aside, put_back, flagged, quietly, receive_cobs, receive_plain, receive}
+use Rattle.link.specs.Receiver.{Mode, kept_off, cobs, plain, escape_open, PlainReading, reading_off, reading_on, Receiver, Working, Ended, ReceiverEnd, Receive, escape_over, is_off, is_plain, in_bounds, begin_plain, at_plain_flag, begins_plain, work, aside, receive_cobs, receive_plain, receive}
 use Rattle.link.specs.ReceiverParts.{ReceiverReady}
 use Rattle.link.specs.EachCall.{ModeStays}
 use Rattle.link.specs.Runs.{received}

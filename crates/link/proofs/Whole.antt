@@ -4,24 +4,24 @@ use mathlib.Core.Path.{◌≡◌, refl, sym, ap, subst, ◌∙◌}
 use mathlib.Core.Bool.{Bool, true, false, not, ◌&&◌, ◌||◌}
 use mathlib.Core.List.{List, [], ◌∷◌}
 use mathlib.Core.Logic.{inl}
-use Prim.Native.Nat.{ℕ, ◌+◌, ◌-◌, ◌≤◌}
+use Prim.Native.Nat.{ℕ, ◌-◌, ◌≤◌}
 use native.Mathlib.Omega.{arith}
-use borrow.Author.Tests.{eqb-true, eqb-false, eq-eqb, ne_eqb, not-true}
+use borrow.Author.Tests.{eqb-true, eqb-false, eq-eqb, not-true}
 use lib.Dec.{ltb, eqb}
 use lib.ListN.{length, take}
 use Rattle.fcs.specs.CheckSequence.{good}
 use Rattle.cobs.specs.CodeBlocks.{flag, from_line}
 use Rattle.cobs.proofs.Tests.{branch, decide, and_left, and_right}
 use Rattle.cobs.proofs.Exchange.{from-other}
-use Rattle.link.specs.Agreed.{Agreed, agreed, valid, least_frame, largest_frame, most_decoded}
+use Rattle.link.specs.Agreed.{Agreed, agreed, valid, least_frame, most_decoded}
 use Rattle.link.specs.Answers.{Answer, quiet, packet, refused}
-use Rattle.link.specs.Receiver.{Fragment, nothing_held, Mode, kept_off, cobs, plain, escape_open, Receiver, Working, ReceiverEnd, Receive, Ended, out_of_frame, escape_over, is_off, is_plain, is_escaped, in_bounds, no_block_open, step5_end, step5_without_phantom, steps_1_to_4, plain_octet, begin_plain, at_plain_flag, begins_plain, work, aside, put_back, flagged, quietly, receive_plain, receive}
+use Rattle.link.specs.Receiver.{Fragment, nothing_held, Mode, kept_off, cobs, plain, escape_open, Receiver, Working, ReceiverEnd, Receive, Ended, out_of_frame, escape_over, is_off, is_plain, is_escaped, in_bounds, no_block_open, step5_end, step5_without_phantom, steps_1_to_4, plain_octet, begin_plain, at_plain_flag, begins_plain, work, aside, put_back, quietly, receive_plain, receive}
 use Rattle.link.specs.ReceiverParts.{ReceiverReady}
 use Rattle.link.proofs.Tests.{or_cases, true-false, not-below}
 use Rattle.link.proofs.Agreed.{limit-at-least}
 use Rattle.link.proofs.Write.{length-write}
 use Rattle.link.proofs.Cobs.{cobs_receive, in-plain, begins, in-cobs}
-use Rattle.link.proofs.ReceiverBounds.{HeldOk, Ready, Fit, Bounds, bounds, counts, in_bounds_lem, by_end, OfFrame, area-long, fit-work, receive-flag, receive_other, flag-ends, other-passes}
+use Rattle.link.proofs.ReceiverBounds.{HeldOk, Ready, Fit, bounds, counts, in_bounds_lem, by_end, OfFrame, fit-work, receive-flag, receive_other, flag-ends, other-passes}
 use Rattle.link.proofs.ReceiverCases.{not_valid, too_short, out-of-bounds}
 use Rattle.link.proofs.Remembers.{octet-so, octet-agrees, skips-octet, flag-agrees}
 use Rattle.link.proofs.PlainCases.{PlainBounds, plain-bounds, plain-in-bounds, by-octet, by-begin, by-plain-flag}

@@ -1,6 +1,6 @@
 -- The numbers of a report: the length of a packet is within the limit, and within its area as the call left it; a count of held octets and
 -- the number of a refusal are small.
-use mathlib.Core.Bool.{Bool, true, false, not}
+use mathlib.Core.Bool.{Bool, not}
 use mathlib.Core.List.{List}
 use mathlib.Core.Logic.{◌⊎◌, inl, inr, ⊎_elim}
 use mathlib.Core.Path.{◌≡◌, refl, sym, ap, subst, ◌∙◌}

@@ -4,13 +4,13 @@ use mathlib.Core.List.{List, [], ◌∷◌, ◌++◌, map, flat_map, Memᴰ}
 use Rattle.std.proofs.Math.Option.{none, some}
 use Rattle.fcs.specs.Notation.{if◌then◌else◌}
 use Rattle.fcs.specs.CheckSequence.{good}
-use Rattle.cobs.specs.CodeBlocks.{flag, frame}
+use Rattle.cobs.specs.CodeBlocks.{flag}
 use Rattle.plain.specs.declared.Sent.TheVariants.{Written as written, Refused as refused_send}
 use Rattle.plain.specs.Maps.{marked, with_framing, refused_pair, marks_ok}
 use Rattle.plain.specs.ReadBack.{Unstuffed, unstuffed, kept}
-use Rattle.link.specs.Agreed.{Settings, Agreed, agreed, least_packet, valid_width, valid_limit, valid, least_frame, largest_frame, most_decoded}
-use Rattle.link.specs.Answers.{Answer, quiet, packet, refused}
-use Rattle.link.specs.Receiver.{cobs, plain, reading_on, opened, refused_opening, Receiver, ReceiverEnd, Receive, opened_receiver, is_plain, write, receive}
+use Rattle.link.specs.Agreed.{Settings, Agreed, agreed, least_packet, valid_width, valid_limit, valid, least_frame, largest_frame}
+use Rattle.link.specs.Answers.{quiet, packet, refused}
+use Rattle.link.specs.Receiver.{cobs, plain, reading_on, opened, refused_opening, ReceiverEnd, opened_receiver, is_plain, write, receive}
 use Rattle.link.specs.ReceiverParts.{ReceiverReady}
 use Rattle.link.specs.PlainSender.{PlainSender, plain_agreed, plain_line, plain_send, open_pair}
 use Rattle.link.specs.Runs.{receives, received, not_quiet}

@@ -1,12 +1,12 @@
 -- The plain sender, and the opening of a pair (docs/READING.md, "Plain PPP"; document 02, slip 5).
-use Rattle.std.specs.Prelude.{Bool, true, false, not, ◌||◌, List, ℕ, ltb, length}
+use Rattle.std.specs.Prelude.{not, ◌||◌, List, ℕ, ltb, length}
 use Rattle.fcs.specs.Notation.{if◌then◌else◌}
 use Rattle.cobs.specs.CodeBlocks.{frame}
-use Rattle.plain.specs.declared.Sent.TheVariants.{Written as written, Refused as refused_send}
+use Rattle.plain.specs.declared.Sent.TheVariants.{Refused as refused_send}
 use Rattle.plain.specs.Maps.{with_framing, refused_pair, marks_ok}
 use Rattle.plain.specs.Stuffing.{Send, line, send}
 use Rattle.link.specs.Agreed.{Settings, Agreed, agreed, least_packet, valid_width, valid_limit, valid}
-use Rattle.link.specs.Receiver.{Opening, opened, refused_opening, reading_on, opened_receiver}
+use Rattle.link.specs.Receiver.{opened, refused_opening, reading_on, opened_receiver}
 pub use Rattle.link.specs.declared.plain_sender.PlainSender.{PlainSender}
 pub use Rattle.link.specs.declared.plain_sender.PairOpening.{PairOpening}
 

@@ -14,7 +14,7 @@ use Rattle.fcs.specs.Notation.{if◌then◌else◌}
 use Rattle.cobs.proofs.Tests.{branch, decide, and_left, and_right}
 use Rattle.link.proofs.Tests.{true-false, false-true, or_cases}
 use Rattle.link.specs.Answers.{Answer, done, octet, idle, quiet, packet, held, refused}
-use Rattle.tally.specs.Counts.{Tally, places, largest_count, empty_tally, place, of_frame, refusal_at, count_at, raised, note}
+use Rattle.tally.specs.Counts.{Tally, places, largest_count, empty_tally, place, of_frame, count_at, raised, note}
 use Rattle.tally.specs.Sums.{total, is_counted, of_kind, FramesCounted, NamedRightly, Fits, LargestOf64Bits, EachCount, AddUp, FromEmpty}
 
 -- ---- a report is counted at the place of its kind, and at no other

@@ -1,14 +1,11 @@
 -- Writing on, octet by octet, at the numbers of the loop.
 use mathlib.Core.Path.{◌≡◌, refl, sym, ap, ◌∙◌}
 use mathlib.Core.Bool.{true, false}
-use mathlib.Core.Logic.{⊎_elim}
-use mathlib.Core.List.{List, [], ◌∷◌, ◌++◌, map, append-nil, append_assoc}
+use mathlib.Core.List.{List, ◌∷◌, ◌++◌, map, append-nil, append_assoc}
 use Prim.Native.Nat.{ℕ, zero, suc, ◌+◌, ◌-◌, ◌≤◌, ◌<◌}
 use native.Mathlib.Nat.{add-zero, zero-add, sub-zero}
 use native.Mathlib.Numerals.{add-one}
 use native.Mathlib.Omega.{arith}
-use types.Run.{OneOf}
-use denote.Enum.Declared.{tag_of, declared}
 use lib.Dec.{eqb}
 use lib.ListN.{length, take, drop, set, get_or, length-set, length-append, length-drop, length-map, get_or-map, take-append-drop}
 use lib.Seq.{paste, take-suc-set, drop-set-lt, append_snoc, drop-cons, drop-drop, length-take-le, get_or-drop, paste-suc, length-paste, take-paste, drop-paste}
@@ -17,7 +14,6 @@ use Rattle.cobs.specs.CodeBlocks.{flag, to_line}
 use Rattle.link.specs.Answers.{Answer, done, octet, idle, quiet, packet, held, refused, next_answer}
 use Rattle.link.specs.declared.sender.NextAnswer.{NextAnswer}
 use Rattle.link.specs.declared.sender.NextAnswer.TheVariants.{Octet, Idle, Refused}
-use Rattle.link.specs.contracts.sender.NextAnswer.{enum}
 use Rattle.link.specs.declared.Settings.{Settings}
 use Rattle.link.specs.declared.sender.Sender.{Sender}
 use Rattle.link.specs.declared.sender.Lane.{Lane}

@@ -1,7 +1,6 @@
 -- `cobs::look_up` meets its contract.
 use mathlib.Core.Path.{sym}
 use native.Mathlib.Omega.{arith}
-use borrow.Author.Tests.{not-true, not-false}
 use Rattle.cobs.proofs.Table.{plain, full, run, pair, not-agreed, unused, reserved, above}
 use Rattle.cobs.proofs.look_up.Goals as goal
 

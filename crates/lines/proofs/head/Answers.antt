@@ -1,5 +1,4 @@
 -- `lines::head`.
-use mathlib.Core.Path.{◌∙◌}
 use native.Mathlib.Omega.{arith}
 use lib.ListN.{length-set}
 use Rattle.lines.proofs.Append.{two-before}

@@ -1,8 +1,7 @@
 use mathlib.Core.Bool.{Bool, not, ◌&&◌}
 use mathlib.Core.Path.{refl, sym, ap₂, ◌∙◌}
-use Prim.Native.Nat.{◌-◌}
 use native.Mathlib.Omega.{arith}
-use Rattle.plain.specs.Maps.{removed, marked, lacks}
+use Rattle.plain.specs.Maps.{lacks}
 use Rattle.plain.proofs.Some.{some_more, some-found, some-none}
 use Rattle.plain.proofs.lacks.Goals as goal
 

@@ -1,7 +1,6 @@
 use mathlib.Core.Path.{sym, ◌∙◌}
-use Prim.Native.Nat.{◌-◌}
 use native.Mathlib.Omega.{arith}
-use Rattle.plain.specs.Maps.{marked, marks_wrongly}
+use Rattle.plain.specs.Maps.{marks_wrongly}
 use Rattle.plain.proofs.Some.{some_more, some-found, some-none}
 use Rattle.plain.proofs.marks_wrongly.Goals as goal
 

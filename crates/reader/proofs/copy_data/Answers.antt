@@ -1,9 +1,8 @@
 use mathlib.Core.Path.{refl, sym, ◌∙◌}
-use Prim.Native.Nat.{◌+◌, ◌-◌}
+use Prim.Native.Nat.{◌+◌}
 use native.Mathlib.Nat.{add-zero}
 use native.Mathlib.Omega.{arith}
 use lib.ListN.{length-set, drop_of_length-le}
-use Rattle.cobs.specs.CodeBlocks.{from_line}
 use Rattle.reader.proofs.Quiet.{one-stored, all-stored}
 use Rattle.reader.proofs.copy_data.Goals as goal
 

@@ -5,7 +5,7 @@ use mathlib.Core.List.{[], ◌∷◌}
 use Prim.Native.Nat.{ℕ, ◌-◌, ◌^◌, ◌≤◌, ◌<◌}
 use lib.ListN.{length, drop}
 use Rattle.fcs.specs.CheckSequence.{check16, feed}
-use Rattle.fcs.proofs.Fold.{after, each}
+use Rattle.fcs.proofs.Fold.{after}
 use Rattle.fcs.proofs.check16.by_folding.Given as goal
 
 -- each is a word

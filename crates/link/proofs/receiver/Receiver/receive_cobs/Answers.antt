@@ -1,6 +1,6 @@
 -- `link::receiver::Receiver::receive_cobs`. Each return by the case of the steps that it is.
 use mathlib.Core.Path.{◌≡◌, sym, ap, ◌∙◌}
-use mathlib.Core.Bool.{true, false, not}
+use mathlib.Core.Bool.{false, not}
 use Prim.Native.Nat.{◌≤◌}
 use lib.Dec.{eqb}
 use native.Mathlib.Omega.{arith}

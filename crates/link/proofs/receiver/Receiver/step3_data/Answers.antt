@@ -2,7 +2,7 @@
 use mathlib.Core.Path.{sym, ◌∙◌}
 use Prim.Native.Nat.{◌<◌}
 use native.Mathlib.Omega.{arith}
-use lib.ListN.{length, length-set}
+use lib.ListN.{length}
 use Rattle.link.specs.Agreed.{agreed, most_decoded}
 use Rattle.link.proofs.Agreed.{decoded-at-most}
 use Rattle.link.proofs.Area.{stored}
