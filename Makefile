@@ -16,12 +16,14 @@ SONAME := libkutarehopa.so.0
 PROGRAMS := capture count send
 MANUALS := $(wildcard man/*)
 
+# What rt built, and what is made of it.
+BUILT := target/staticlib/libkutarehopa.a
 LIB := target/lib
 ARCHIVE := $(LIB)/libkutarehopa.a
 SHARED := $(LIB)/libkutarehopa.so
 DRIVER := target/bin/exercise
-# The crate's own sources and those of the crates that it rests on.
-CRATES := kutarehopa $(shell sed -n 's/^kutarehopa: *//p' crates.txt)
+# The sources of the exports, of the library under them and of the crates that it rests on.
+CRATES := kutarehopa_c kutarehopa $(shell sed -n 's/^kutarehopa: *//p' crates.txt)
 SOURCES := crates.txt $(shell find $(CRATES:%=crates/%) \( -path '*/src/*.rt' -o -path '*/specs/*.antt' -o -path '*/proofs/*.antt' \))
 
 ifneq ($(filter-out /%,$(PREFIX))$(filter /%,$(LIBDIR))$(findstring ',$(PREFIX))$(findstring &,$(PREFIX))$(findstring \,$(PREFIX)),)
@@ -45,14 +47,19 @@ target/library.sources: FORCE
 	@mkdir -p target
 	@sha256sum $(sort $(SOURCES)) | sha256sum | cmp -s - $@ || sha256sum $(sort $(SOURCES)) | sha256sum >$@
 
-# One build at a time, as with the script. RFC 1662's names give way to functions of these names in the program.
-$(ARCHIVE): target/library.sources
+# One build at a time, as with the script. (After rt ci, tools/after_ci makes this file.)
+$(BUILT): target/library.sources
 	@command -v rt >/dev/null || { echo "make: the library is not built yet, and the Rattle kit's command rt is not on the path (README.md)" >&2; exit 1; }
 	@echo "proving and building the library; some minutes, if nothing is proved yet" >&2
-	@mkdir -p $(LIB)
-	@flock crates.txt rt staticlib kutarehopa >target/library.log 2>&1 </dev/null || \
+	@mkdir -p $(@D)
+	@flock crates.txt sh -c 'cd crates/kutarehopa_c && rt lib' >target/library.log 2>&1 </dev/null || \
 	    { tail -n 20 target/library.log >&2; echo "make: the library could not be proved and built (target/library.log has it all)" >&2; exit 1; }
-	@objcopy --weaken-symbol=pppfcs16 --weaken-symbol=pppfcs32 target/staticlib/libkutarehopa.a $@
+	@cp crates/kutarehopa_c/out/libkutarehopa_c.a $@
+
+# RFC 1662's names give way to functions of these names in the program.
+$(ARCHIVE): $(BUILT)
+	@mkdir -p $(LIB)
+	@objcopy --weaken-symbol=pppfcs16 --weaken-symbol=pppfcs32 $(BUILT) $@
 
 $(SHARED): $(ARCHIVE)
 	$(CC) -shared -Wl,-soname,$(SONAME) -Wl,-z,defs -Wl,--whole-archive $(ARCHIVE) -Wl,--no-whole-archive -o $(LIB)/$(SONAME)
@@ -110,4 +117,4 @@ uninstall:
 	rm -rf '$(DESTDIR)$(PREFIX)/libexec/kutarehopa' '$(DESTDIR)$(PREFIX)/share/doc/kutarehopa'
 
 clean:
-	rm -rf target
+	rm -rf target crates/*/out
