@@ -5,9 +5,9 @@
 use std::hint::black_box;
 use std::time::Instant;
 
-#[link(name = "fcs", kind = "static")]
+#[link(name = "kutarehopa", kind = "static")]
 extern "C" {
-    // crates/fcs/src/lib.rt: a slice is a pointer and a length
+    // include/kutarehopa.h, over crates/fcs/src/lib.rt: a slice is a pointer and a length
     fn pppfcs16(start: u16, octets: *const u8, length: usize) -> u16;
     fn pppfcs32(start: u32, octets: *const u8, length: usize) -> u32;
 }
