@@ -63,7 +63,7 @@ $(ARCHIVE): $(BUILT)
 
 $(SHARED): $(ARCHIVE)
 	$(CC) -shared -Wl,-soname,$(SONAME) -Wl,-z,defs -Wl,--whole-archive $(ARCHIVE) -Wl,--no-whole-archive -o $(LIB)/$(SONAME)
-	@ln -sf $(SONAME) $@
+	@cp $(LIB)/$(SONAME) $@
 
 $(DRIVER): tests/exercise.c include/kutarehopa.h $(ARCHIVE)
 	@mkdir -p target/bin
