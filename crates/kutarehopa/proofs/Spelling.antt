@@ -151,6 +151,7 @@ module _ (m : List ℕ) where
   -- each of them
   pub from_at : (i k j : ℕ) → j < k → get_or (octets_from m i k) j 0 ≡ octet_at m (i + j)
   unfolding octets_from
+  from_at i zero j h = absurd (omega arith)
   from_at i (suc k) zero h = ap (octet_at m) (omega arith)
   from_at i (suc k) (suc j) h = from_at (i + 1) k j (omega arith) ∙ ap (octet_at m) (omega arith)
 
