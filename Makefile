@@ -24,7 +24,7 @@ SHARED := $(LIB)/libkutarehopa.so
 DRIVER := target/bin/exercise
 # The sources of the exports, of the library under them and of the crates that it rests on.
 CRATES := kutarehopa_c kutarehopa $(shell sed -n 's/^kutarehopa: *//p' crates.txt)
-SOURCES := crates.txt $(shell find $(CRATES:%=crates/%) \( -path '*/src/*.rt' -o -path '*/specs/*.antt' -o -path '*/proofs/*.antt' \))
+SOURCES := crates.txt $(shell find $(CRATES:%=crates/%) -path '*/out' -prune -o \( -path '*/src/*.rt' -o -path '*/specs/*.antt' -o -path '*/proofs/*.antt' \) -print)
 
 ifneq ($(filter-out /%,$(PREFIX))$(filter /%,$(LIBDIR))$(findstring ',$(PREFIX))$(findstring &,$(PREFIX))$(findstring \,$(PREFIX)),)
 $(error PREFIX must be an absolute path without spaces, quotes, & and \, and LIBDIR a path below it)
