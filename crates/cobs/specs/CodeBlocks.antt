@@ -4,7 +4,7 @@ use mathlib.Core.List.{List, [], ◌∷◌, ◌++◌, map, flat_map, Memᴰ}
 use Rattle.std.proofs.Math.Option
 use Rattle.std.proofs.Math.Option.{Option, none, some}
 use Rattle.fcs.specs.CheckSequence.{Check, fcs}
-use Rattle.fcs.specs.Notation.{if◌then◌else◌}
+use Rattle.std.specs.Prelude.{if◌then◌else◌}
 pub use Rattle.cobs.specs.declared.Meaning.{Meaning}
 pub use Rattle.cobs.specs.declared.Meaning.TheVariants.{InTable, NotAgreed, NoCode}
 pub use Rattle.cobs.specs.declared.Choice.{Choice}

@@ -6,7 +6,8 @@ use native.Mathlib.Omega.{arith}
 use lib.Bits.{shifted_half, shifted_even}
 use lib.Dec.{eqb}
 use lib.Pow.{pow_pos, pow_mono}
-use Rattle.fcs.specs.Notation.{if◌then◌else◌, ◌⊕◌}
+use Rattle.std.specs.Prelude.{if◌then◌else◌}
+use Rattle.fcs.specs.Notation.{◌⊕◌}
 use Rattle.fcs.specs.CheckSequence.{Check, Sound, width, bit_step, bit_steps}
 use Rattle.fcs.proofs.Xor as xor
 

@@ -8,7 +8,7 @@ use borrow.Author.Tests.{eqb-true, eqb-false, ne_eqb, ltb-false, ltb-true, lt-le
 use lib.Dec.{ltb, eqb}
 use lib.ListN.{length, drop, length-set}
 use lib.Seq.{take-append_seam, drop-append_seam}
-use Rattle.fcs.specs.Notation.{if◌then◌else◌}
+use Rattle.std.specs.Prelude.{if◌then◌else◌}
 use Rattle.cobs.proofs.Tests.{branch, decide, true-false, false-true}
 use Rattle.plain.specs.declared.Sent.{Sent}
 use Rattle.plain.specs.declared.Sent.TheVariants.{Written as written_send, Refused as refused_send}

@@ -9,7 +9,7 @@ use borrow.Author.Tests.{leb-true, eqb-true, eqb-false, eq-eqb}
 use lib.Dec.{leb, eqb}
 use lib.ListN.{length, drop, get_or, get_or-append}
 use lib.Seq.{get_or-append-add, ext_get_or}
-use Rattle.fcs.specs.Notation.{if◌then◌else◌}
+use Rattle.std.specs.Prelude.{if◌then◌else◌}
 use Rattle.cobs.proofs.Tests.{and_left, and_right}
 use Rattle.link.proofs.Tests.{ands}
 use Rattle.link.specs.Agreed.{Agreed, agreed}

@@ -1,6 +1,6 @@
 -- The calls on octets and the calls on states (link's, reader's, writer's). Each is proved in proofs/AsTheCalls.antt.
 use Rattle.std.specs.Prelude.{true, false, List, [], ◌∷◌, ◌++◌, map, ◌≡◌, ℕ, ◌-◌, ◌<◌, eqb, length, take, drop, get_or}
-use Rattle.fcs.specs.Notation.{if◌then◌else◌}
+use Rattle.std.specs.Prelude.{if◌then◌else◌}
 use Rattle.plain.specs.Maps.{refused_pair, marks_ok}
 use Rattle.link.specs.declared.Settings.{Settings}
 use Rattle.link.specs.Agreed.{agreed, valid}

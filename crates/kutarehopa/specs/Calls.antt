@@ -1,7 +1,7 @@
 -- The calls of the C library: what each answers, and the octets of its state and its areas after it. Each is the call of link, of reader or of
 -- writer on the state that the octets spell.
 use Rattle.std.specs.Prelude.{Bool, true, false, not, ◌||◌, List, ℕ, ◌-◌, leb, ltb, eqb, length, get_or}
-use Rattle.fcs.specs.Notation.{if◌then◌else◌}
+use Rattle.std.specs.Prelude.{if◌then◌else◌}
 use Rattle.plain.specs.Stuffing.{Send}
 use Rattle.link.specs.declared.Settings.{Settings}
 use Rattle.link.specs.Agreed.{agreed, valid, largest_frame, most_decoded}

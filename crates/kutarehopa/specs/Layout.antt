@@ -24,7 +24,7 @@
 --   25      remembered refusal             2-3     limit
 --                                          4-35    sending map
 use Rattle.std.specs.Prelude.{Bool, true, false, ◌&&◌, ◌||◌, List, [], ◌∷◌, ◌++◌, ℕ, zero, suc, ◌+◌, ◌*◌, ◌/◌, ◌%◌, leb, eqb, length, drop, get_or, replicate}
-use Rattle.fcs.specs.Notation.{if◌then◌else◌}
+use Rattle.std.specs.Prelude.{if◌then◌else◌}
 use Rattle.link.specs.Agreed.{agreed}
 use Rattle.link.specs.Receiver.{carried}
 use Rattle.link.specs.declared.Settings.{Settings}

@@ -1,6 +1,6 @@
 -- An answer as one number of 32 bits (include/kutarehopa.h): the kind in the highest octet, a mark in bit 16, a value in the low 16 bits.
 use Rattle.std.specs.Prelude.{Bool, false, List, ◌≡◌, ℕ, ◌+◌, ◌*◌, ◌/◌, ◌%◌, ◌<◌, eqb}
-use Rattle.fcs.specs.Notation.{if◌then◌else◌}
+use Rattle.std.specs.Prelude.{if◌then◌else◌}
 use Rattle.plain.specs.declared.Sent.{Sent}
 use Rattle.plain.specs.declared.Sent.TheVariants.{Written as written, Refused as refused_send}
 use Rattle.link.specs.Answers.{Answer, done, octet, idle, quiet, packet, held, refused}

@@ -1,6 +1,6 @@
 // The receiver's state in octets (specs/Layout.antt).
 ghost use Rattle.std.specs.Prelude.{◌≡◌, eqb};
-ghost use Rattle.fcs.specs.Notation.{if◌then◌else◌};
+ghost use Rattle.std.specs.Prelude.{if◌then◌else◌};
 ghost use Rattle.link.specs.declared.receiver.Fragment.TheVariants.{NothingHeld as nothing_held, Holds as holds};
 ghost use Rattle.link.specs.Answers.{report_answer};
 ghost use Rattle.kutarehopa.specs.Calls.{taken, receiver_after};

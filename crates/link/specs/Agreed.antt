@@ -1,7 +1,7 @@
 -- What both ends agreed on (docs/READING.md, "What was agreed"; document 01, "Code blocks", and document 02, slips 1 and 11), and the bounds
 -- that follow from it.
 use Rattle.std.specs.Prelude.{Bool, ◌&&◌, ◌||◌, ℕ, ◌+◌, ◌/◌, ◌%◌, leb, eqb}
-use Rattle.fcs.specs.Notation.{if◌then◌else◌}
+use Rattle.std.specs.Prelude.{if◌then◌else◌}
 use Rattle.fcs.specs.CheckSequence.{Check, check16, check32}
 -- The settings, which either end is opened with and keeps (declared in src/lib.rt): the settings octet, the width of the check in bits, and the
 -- limit. All three are numbers that a caller hands in.

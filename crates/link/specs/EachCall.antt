@@ -1,7 +1,7 @@
 -- What holds of every single call (docs/DEMANDS.md; document 01, "Sender" and "Receiver"; document 02, slips 4, 5 and 8): what it leaves as it was, and
 -- what becomes of what is held. The steps say it too, each for itself; here it is said of the whole call.
 use Rattle.std.specs.Prelude.{Bool, true, false, not, ◌&&◌, List, ◌⊎◌, ◌≡◌, ℕ, ◌+◌, ◌≤◌, ◌<◌, eqb, length, take, drop}
-use Rattle.fcs.specs.Notation.{if◌then◌else◌}
+use Rattle.std.specs.Prelude.{if◌then◌else◌}
 use Rattle.fcs.specs.CheckSequence.{register, good}
 use Rattle.cobs.specs.CodeBlocks.{frame, flag, from_line}
 use Rattle.link.specs.Agreed.{Settings, Agreed, agreed, valid_width, valid_limit, valid, least_packet, largest_frame, most_decoded}

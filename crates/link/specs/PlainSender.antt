@@ -1,6 +1,6 @@
 -- The plain sender, and the opening of a pair (docs/READING.md, "Plain PPP"; document 02, slip 5).
 use Rattle.std.specs.Prelude.{not, ◌||◌, List, ℕ, ltb, length}
-use Rattle.fcs.specs.Notation.{if◌then◌else◌}
+use Rattle.std.specs.Prelude.{if◌then◌else◌}
 use Rattle.cobs.specs.CodeBlocks.{frame}
 use Rattle.plain.specs.declared.Sent.TheVariants.{Refused as refused_send}
 use Rattle.plain.specs.Maps.{with_framing, refused_pair, marks_ok}

@@ -2,7 +2,7 @@
 -- lanes get empty in time, and urgent packets go first.
 use Rattle.std.specs.Prelude.{Bool, true, false, ◌&&◌, ◌||◌, ◌⊎◌, ◌≡◌, ℕ, ◌+◌, ◌/◌, ◌≤◌, ltb, eqb, length, take, drop, replicate}
 use mathlib.Core.List.{List, [], ◌∷◌, ◌++◌, map, Memᴰ}
-use Rattle.fcs.specs.Notation.{if◌then◌else◌}
+use Rattle.std.specs.Prelude.{if◌then◌else◌}
 use Rattle.cobs.specs.CodeBlocks.{frame, to_line, line_octets, blocks, uninterrupted}
 use Rattle.link.specs.Agreed.{Settings, agreed, least_packet, largest_frame, valid}
 use Rattle.link.specs.Answers.{done, idle}

@@ -1,6 +1,6 @@
 -- The receiver's call, one for each octet (docs/READING.md; document 01, "Receiver", and for the bounds "Refusal table"; document 02, slips 4, 5 and 8).
 use Rattle.std.specs.Prelude.{Bool, true, false, not, ◌&&◌, ◌||◌, List, [], ◌∷◌, ℕ, ◌+◌, ◌-◌, leb, ltb, eqb, length, take, replicate}
-use Rattle.fcs.specs.Notation.{if◌then◌else◌}
+use Rattle.std.specs.Prelude.{if◌then◌else◌}
 use Rattle.fcs.specs.CheckSequence.{ones, register, good}
 use Rattle.cobs.specs.CodeBlocks.{flag, from_line, meaning}
 use Rattle.cobs.specs.declared.Meaning.{Meaning}

@@ -1,7 +1,7 @@
 -- Runs of the two ends, and what is noted of each written octet (docs/DEMANDS.md; document 01, "Receiver", the paragraphs on demand 3).
 use Rattle.std.specs.Prelude.{Bool, true, false, not, ◌&&◌, ◌||◌, List, [], ◌∷◌, map, ◌≡◌, ℕ, take}
 use Rattle.std.proofs.Math.Option.{Option, none, some}
-use Rattle.fcs.specs.Notation.{if◌then◌else◌}
+use Rattle.std.specs.Prelude.{if◌then◌else◌}
 use Rattle.cobs.specs.CodeBlocks.{flag}
 use Rattle.link.specs.Agreed.{Settings}
 use Rattle.link.specs.Answers.{Answer, done, octet, idle, quiet, packet, held, refused, is_quiet}

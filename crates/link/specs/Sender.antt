@@ -1,6 +1,6 @@
 -- The sender's calls, load and next octet (docs/READING.md and document 01, "Sender"; the bounds: "Refusal table").
 use Rattle.std.specs.Prelude.{Bool, true, false, not, ◌&&◌, ◌||◌, List, ◌++◌, ℕ, ◌+◌, ◌-◌, leb, ltb, eqb, length, take, drop, get_or}
-use Rattle.fcs.specs.Notation.{if◌then◌else◌}
+use Rattle.std.specs.Prelude.{if◌then◌else◌}
 use Rattle.cobs.specs.CodeBlocks.{frame, with_phantom, flag, to_line, choice}
 use Rattle.cobs.specs.declared.Choice.{Choice}
 use Rattle.link.specs.Agreed.{Settings, Agreed, agreed, valid_width, valid_limit, valid, least_packet, least_frame, largest_frame}

@@ -1,6 +1,6 @@
 -- The control maps (docs/READING.md, "Plain PPP"; document 02, slip 5; RFC 1662, 4.2 and 7.1). A mark is a bit that is set.
 use Rattle.std.specs.Prelude.{Bool, false, not, ◌&&◌, ◌||◌, List, ℕ, zero, suc, ◌+◌, ◌/◌, ◌%◌, ◌^◌, ltb, eqb, get_or, set}
-use Rattle.fcs.specs.Notation.{if◌then◌else◌}
+use Rattle.std.specs.Prelude.{if◌then◌else◌}
 use Rattle.cobs.specs.CodeBlocks.{flag}
 
 -- the octet that announces an escaped one

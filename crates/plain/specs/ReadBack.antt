@@ -1,7 +1,7 @@
 -- What is sent reads back, and what is removed leaves no trace (docs/DEMANDS.md). Each is proved in proofs/ReadBack.antt.
 use Rattle.std.specs.Prelude.{Bool, true, false, ◌≡◌, ℕ, replicate}
 use mathlib.Core.List.{List, [], ◌∷◌, ◌++◌, Memᴰ}
-use Rattle.fcs.specs.Notation.{if◌then◌else◌}
+use Rattle.std.specs.Prelude.{if◌then◌else◌}
 use Rattle.cobs.specs.CodeBlocks.{flag}
 use Rattle.plain.specs.Maps.{removed, marking, with_framing, lacks, refused_pair, marks_ok}
 use Rattle.plain.specs.Stuffing.{Taken, Removed, Escape, Data, written, refused_send, stuffed, line, send, taken}

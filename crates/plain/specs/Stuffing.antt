@@ -2,7 +2,8 @@
 -- octet says to a receiver.
 use Rattle.std.specs.Prelude.{Bool, ℕ, ltb, eqb, length}
 use mathlib.Core.List.{List, [], ◌∷◌, ◌++◌, flat_map}
-use Rattle.fcs.specs.Notation.{if◌then◌else◌, ◌⊕◌}
+use Rattle.std.specs.Prelude.{if◌then◌else◌}
+use Rattle.fcs.specs.Notation.{◌⊕◌}
 use Rattle.fcs.specs.CheckSequence.{Check, check16, check32}
 use Rattle.cobs.specs.CodeBlocks.{flag}
 use Rattle.plain.specs.Area.{write}

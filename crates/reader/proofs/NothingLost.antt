@@ -5,7 +5,7 @@ use mathlib.Core.List.{List, [], ◌∷◌, ◌++◌, map-append, flatten}
 use Prim.Native.Nat.{ℕ, zero, suc, ◌-◌, ◌≤◌}
 use native.Mathlib.Numerals.{one-add}
 use native.Mathlib.Omega.{arith}
-use Rattle.fcs.specs.Notation.{if◌then◌else◌}
+use Rattle.std.specs.Prelude.{if◌then◌else◌}
 use lib.ListN.{length, take, drop, replicate, take-append-drop, length-drop, drop_of_length-le}
 use Rattle.link.specs.Answers.{Answer, done, octet, idle, quiet, packet, held, refused, is_quiet}
 use Rattle.link.specs.Receiver.{ReceiverEnd, Receive, receive}

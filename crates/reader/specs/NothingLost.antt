@@ -1,7 +1,7 @@
 -- Reading on loses nothing of what the calls for each octet (link's Runs.antt) answer. Each is proved in proofs/NothingLost.antt.
 use Rattle.std.specs.Prelude.{true, ◌≡◌, ℕ, zero, suc, ◌-◌, ◌≤◌, ◌<◌, length, take, drop, replicate}
 use mathlib.Core.List.{List, [], ◌∷◌, ◌++◌, map, flatten}
-use Rattle.fcs.specs.Notation.{if◌then◌else◌}
+use Rattle.std.specs.Prelude.{if◌then◌else◌}
 use Rattle.link.specs.Answers.{Answer, quiet, is_quiet}
 use Rattle.link.specs.Receiver.{ReceiverEnd, Receive}
 use Rattle.link.specs.Runs.{receives, received, not_quiet}

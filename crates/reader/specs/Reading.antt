@@ -1,6 +1,6 @@
 -- Reading on: the octets of a stretch go to the receiver one after another, up to and with the first that is answered by anything but Quiet.
 use Rattle.std.specs.Prelude.{List, [], ◌∷◌, ℕ, ◌+◌}
-use Rattle.fcs.specs.Notation.{if◌then◌else◌}
+use Rattle.std.specs.Prelude.{if◌then◌else◌}
 use Rattle.link.specs.Answers.{Answer, quiet, is_quiet}
 use Rattle.link.specs.Receiver.{ReceiverEnd, Receive, receive}
 

@@ -1,6 +1,6 @@
 -- The parts of reading on: octets that are known to be Quiet, many at once.
 use Rattle.std.specs.Prelude.{Bool, ◌||◌, List, [], ◌∷◌, ℕ, suc, eqb}
-use Rattle.fcs.specs.Notation.{if◌then◌else◌}
+use Rattle.std.specs.Prelude.{if◌then◌else◌}
 use Rattle.cobs.specs.CodeBlocks.{flag}
 use Rattle.plain.specs.Maps.{escape, removed}
 use Rattle.link.specs.Receiver.{with_decoded, with_due}

@@ -10,7 +10,7 @@ use borrow.Author.Tests.{eqb-false, ltb-true, ltb-false, leb-true, leb-false, eq
 use lib.Dec.{leb, ltb, eqb}
 use lib.ListN.{length, get_or, set, length-set, get_or-replicate}
 use lib.Seq.{get_or-set_same, get_or-set_other}
-use Rattle.fcs.specs.Notation.{if◌then◌else◌}
+use Rattle.std.specs.Prelude.{if◌then◌else◌}
 use Rattle.cobs.proofs.Tests.{branch, decide, and_left, and_right}
 use Rattle.link.proofs.Tests.{true-false, false-true, or_cases}
 use Rattle.link.specs.Answers.{Answer, done, octet, idle, quiet, packet, held, refused}

@@ -1,6 +1,6 @@
 -- The tally (document 01, "Display, tally, capture program"; document 02, slips 5 and 8).
 use Rattle.std.specs.Prelude.{Bool, ◌&&◌, ◌||◌, ℕ, ◌+◌, ◌-◌, leb, ltb, eqb, get_or, set, replicate}
-use Rattle.fcs.specs.Notation.{if◌then◌else◌}
+use Rattle.std.specs.Prelude.{if◌then◌else◌}
 use Rattle.link.specs.Answers.{Answer, done, octet, idle, quiet, packet, held, refused}
 pub use Rattle.tally.specs.declared.Tally.{Tally}
 

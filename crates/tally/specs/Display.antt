@@ -1,7 +1,7 @@
 -- What is shown of a reported packet (document 01, "Display, tally, capture program").
 use Rattle.std.specs.Prelude.{Bool, true, false, List, [], ◌≡◌, ℕ, ◌≤◌, ◌<◌, leb, length, take}
 use Rattle.std.proofs.Math.Option.{some}
-use Rattle.fcs.specs.Notation.{if◌then◌else◌}
+use Rattle.std.specs.Prelude.{if◌then◌else◌}
 use Rattle.link.specs.Answers.{packet}
 use Rattle.link.specs.Receiver.{ReceiverEnd, receive}
 use Rattle.link.specs.Runs.{packet_in}

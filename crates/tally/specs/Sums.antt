@@ -2,7 +2,7 @@
 -- from `place`, so that a place given to the wrong reports would not pass.
 use Rattle.std.specs.Prelude.{Bool, true, false, ◌&&◌, ◌||◌, ◌⊎◌, ◌≡◌, ℕ, ◌+◌, ◌^◌, ◌≤◌, ◌<◌, min, leb, eqb, length}
 use mathlib.Core.List.{List, [], ◌∷◌, foldl, sum}
-use Rattle.fcs.specs.Notation.{if◌then◌else◌}
+use Rattle.std.specs.Prelude.{if◌then◌else◌}
 use Rattle.link.specs.Answers.{Answer, done, octet, idle, quiet, packet, held, refused}
 use Rattle.tally.specs.Counts.{Tally, places, largest_count, empty_tally, of_frame, refusal_at, count_at, note}
 

@@ -6,7 +6,7 @@ use Prim.Native.Nat.{ℕ, ◌+◌, ◌-◌, ◌≤◌}
 use borrow.Author.Rules.{part_to_end}
 use lib.ListN.{length, take, drop, drop_of_length-le}
 use lib.Seq.{drop-drop}
-use Rattle.fcs.specs.Notation.{if◌then◌else◌}
+use Rattle.std.specs.Prelude.{if◌then◌else◌}
 use Rattle.link.specs.Receiver.{ReceiverEnd, Receive}
 use Rattle.link.specs.Runs.{receives, received, not_quiet}
 use Rattle.link.specs.Answers.{is_quiet}

@@ -1,7 +1,7 @@
 -- What a stretch of a line comes to as text (document 01, "Display, tally, capture program").
 use mathlib.Core.List.{List, [], ◌∷◌, flat_map}
 use Rattle.std.specs.Prelude.{ℕ, ◌+◌, ◌*◌, ltb, length}
-use Rattle.fcs.specs.Notation.{if◌then◌else◌}
+use Rattle.std.specs.Prelude.{if◌then◌else◌}
 use Rattle.link.specs.Agreed.{agreed}
 use Rattle.link.specs.declared.Settings.{Settings}
 use Rattle.link.specs.Answers.{Answer, done, octet, idle, quiet, packet, held, refused}

@@ -9,7 +9,7 @@ use native.Mathlib.Omega.{arith}
 use lib.Dec.{eqb}
 use lib.ListN.{length, take, drop, set, get_or, length-set, length-append, length-drop, length-map, get_or-map, take-append-drop}
 use lib.Seq.{paste, take-suc-set, drop-set-lt, append_snoc, drop-cons, drop-drop, length-take-le, get_or-drop, paste-suc, length-paste, take-paste, drop-paste}
-use Rattle.fcs.specs.Notation.{if◌then◌else◌}
+use Rattle.std.specs.Prelude.{if◌then◌else◌}
 use Rattle.cobs.specs.CodeBlocks.{flag, to_line}
 use Rattle.link.specs.Answers.{Answer, done, octet, idle, quiet, packet, held, refused, next_answer}
 use Rattle.link.specs.declared.sender.NextAnswer.{NextAnswer}

@@ -1,6 +1,6 @@
 -- `lines::report`.
 use mathlib.Core.Path.{◌≡◌}
-use Rattle.fcs.specs.Notation.{if◌then◌else◌}
+use Rattle.std.specs.Prelude.{if◌then◌else◌}
 use Rattle.lines.specs.Lines.{report_line}
 use Rattle.lines.proofs.Append.{append-none}
 use Rattle.lines.proofs.report.Goals.{then-replaced, else-replaced}
