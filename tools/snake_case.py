@@ -25,8 +25,8 @@ IN_FILE = {"Lock.antt": {"resumes-low": "resumes-low_lem"}, "PlainPair.antt": {"
 # a whole name of antt's, with what may stand in one
 NAME = re.compile(r"(?<![\w'◌→≤<≡-])[^\W\d_](?:[\w'·]|-(?=[\w·])|[→≤<≡](?=\w))*")
 CHUNK = re.compile(r"(?<![A-Za-z0-9])[a-z][a-z0-9]*[A-Z][A-Za-z0-9]*")
-# what isn't respelled: strings, and the paths of an older form in edits
-STRING = re.compile(r'b?"(?:[^"\\]|\\.)*"')
+# what isn't respelled: strings, also those that go on in the next line, and the paths of an older form in edits
+STRING = re.compile(r'b?"(?:[^"\\]|\\.)*"', re.S)
 
 
 def chunk(m):
