@@ -8,30 +8,32 @@ ghost use Rattle.link.specs.declared.receiver.Opening.TheVariants.{Opened};
 ghost use Rattle.link.specs.declared.receiver.PlainReading.TheVariants.{On};
 ghost use Rattle.transcript.specs.Transcript.{longest_line};
 
-use files::Output;
-use libc::STDOUT_FILENO;
+use files::{File, Output, System};
 use link::Settings;
 use link::receiver::{Opening, PlainReading, Receiver};
+use std::io;
+use std::io::{Error, Read};
+use std::process::ExitCode;
 
-fn main() {
-    let mut output = files::nothing_printed();
-    for number in 1..files::end() {
+fn main(rt: HostRuntime) -> ExitCode {
+    let mut output = files::nothing_printed(&rt);
+    for number in 1..files::end(&rt) {
         if output.on {
-            output = capture(number, output);
+            output = capture(&rt, number, output);
         }
     }
+    files::status(output.deserted)
 }
 
 // The capture that an argument names.
-fn capture(number: usize, output: Output) -> Output {
-    let mut name = io::buffer();
-    let file = files::open(b"capture", number, &mut name);
-    let fd = file.fd;
-    if fd < 0 {
+fn capture<R: System>(rt: &R, number: usize, output: Output) -> Output {
+    let mut name = [0u8; 4096];
+    let mut file = files::open(rt, b"capture", number, &mut name);
+    if !files::is_open(&file) {
         return output;
     }
     let n = file.named;
-    let after = print(fd, &name[0..n], output);
+    let after = print(rt, &mut file, &name[0..n], output);
     files::close(file);
     after
 }
@@ -50,14 +52,21 @@ fn opened() -> Opening
 }
 
 // The lines of a capture, from its first octet to its last.
-fn print(fd: i32, name: &[u8], output: Output) -> Output {
-    let mut buffer = io::large_buffer();
-    let mut got = libc::read(fd, &mut buffer);
-    if got < 0 {
-        unread(name);
-        return output;
-    }
-    let mut after = files::head(b"capture", name, output);
+fn print<R: System, F: Read, I: Read>(
+    rt: &R,
+    file: &mut File<F, I>,
+    name: &[u8],
+    output: Output,
+) -> Output {
+    let mut buffer = [0u8; 65536];
+    let mut got = match files::read(file, &mut buffer) {
+        Ok(got) => got,
+        Err(error) => {
+            unread(rt, name, error);
+            return output;
+        }
+    };
+    let after = files::head(rt, b"capture", name, output);
     if !after.on {
         return after;
     }
@@ -65,40 +74,49 @@ fn print(fd: i32, name: &[u8], output: Output) -> Output {
     let Opening::Opened(receiver) = opening else {
         return after;
     };
-    let mut page = io::large_buffer();
+    let mut page = [0u8; 65536];
     let mut first = [0u8; 2051];
     let mut second = [0u8; 2051];
     let mut state = receiver;
     let mut reads = u64::MAX;
     while reads > 0 {
-        if got <= 0 {
+        if got == 0 {
             break;
         }
-        let n = io::count(got, &buffer);
-        let progress = write(state, &buffer[..n], &mut first, &mut second, &mut page);
-        if !progress.on {
-            after.on = false;
-            return after;
+        let progress = write(
+            rt,
+            state,
+            &buffer[..got],
+            &mut first,
+            &mut second,
+            &mut page,
+        );
+        if let Err(error) = progress.written {
+            return files::stop(rt, b"capture", after, error);
         }
         state = progress.state;
-        got = libc::read(fd, &mut buffer);
+        match files::read(file, &mut buffer) {
+            Ok(n) => got = n,
+            Err(error) => {
+                ended_early(rt, name, error);
+                return after;
+            }
+        }
         reads -= 1;
-    }
-    if got < 0 {
-        ended_early(name);
     }
     after
 }
 
-// The receiver between reads. on: what was read is written.
-#[derive(Drop)]
+// The receiver between reads, and whether what was read is written.
+#[derive(Clone, Copy)]
 struct Progress {
     state: Receiver,
-    on: bool,
+    written: io::Result<()>,
 }
 
 // The lines of a stretch of octets, page after page.
-fn write(
+fn write<R: System>(
+    rt: &R,
     start: Receiver,
     octets: &[u8],
     first: &mut [u8],
@@ -115,22 +133,27 @@ fn write(
         state = printed.state;
         at += printed.used;
         let filled = printed.filled;
-        if !io::write_all(STDOUT_FILENO, &page[0..filled]) {
-            files::unwritten(b"capture");
-            return Progress { state, on: false };
+        let written = rt.write_all(&page[0..filled]);
+        if written.is_err() {
+            return Progress { state, written };
         }
     }
-    Progress { state, on: true }
+    Progress {
+        state,
+        written: Ok(()),
+    }
 }
 
-fn unread(name: &[u8]) {
-    files::fail(b"capture", name, b"cannot be read");
+fn unread<R: System>(rt: &R, name: &[u8], error: Error) {
+    files::fail(rt, b"capture", name, b"cannot be read", error);
 }
 
-fn ended_early(name: &[u8]) {
+fn ended_early<R: System>(rt: &R, name: &[u8], error: Error) {
     files::fail(
+        rt,
         b"capture",
         name,
         b"cannot be read further; the lines are those of what came before",
+        error,
     );
 }

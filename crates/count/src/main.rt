@@ -7,38 +7,43 @@ ghost use Rattle.link.specs.Receiver.{opened_receiver};
 ghost use Rattle.link.specs.declared.receiver.Opening.TheVariants.{Opened};
 ghost use Rattle.link.specs.declared.receiver.PlainReading.TheVariants.{On};
 
-use files::Output;
-use libc::STDOUT_FILENO;
+use files::{File, Output, System};
 use link::Settings;
 use link::receiver::{Opening, PlainReading};
+use std::io;
+use std::io::{Error, ErrorKind, Read};
+use std::process::ExitCode;
 use tally::Tally;
 
-fn main() {
-    let mut output = files::nothing_printed();
-    for number in 1..files::end() {
+fn main(rt: HostRuntime) -> ExitCode {
+    let mut output = files::nothing_printed(&rt);
+    for number in 1..files::end(&rt) {
         if output.on {
-            output = capture(number, output);
+            output = capture(&rt, number, output);
         }
     }
+    files::status(output.deserted)
 }
 
 // The capture that an argument names.
-fn capture(number: usize, output: Output) -> Output {
-    let mut name = io::buffer();
-    let file = files::open(b"count", number, &mut name);
-    if file.fd < 0 {
+fn capture<R: System>(rt: &R, number: usize, output: Output) -> Output {
+    let mut name = [0u8; 4096];
+    let mut file = files::open(rt, b"count", number, &mut name);
+    if !files::is_open(&file) {
         return output;
     }
     let n = file.named;
-    let counted = count(file.fd, &name[0..n]);
+    let counted = count(rt, &mut file, &name[0..n]);
     files::close(file);
     if !counted.read {
         return output;
     }
     let counts = counted.counts;
-    let mut after = files::head(b"count", &name[0..n], output);
+    let after = files::head(rt, b"count", &name[0..n], output);
     if after.on {
-        after.on = print(counts);
+        if let Err(error) = print(rt, counts) {
+            return files::stop(rt, b"count", after, error);
+        }
     }
     after
 }
@@ -57,14 +62,14 @@ fn opened() -> Opening
 }
 
 // A capture's counts. read: it could be read, at least in part.
-#[derive(Drop)]
+#[derive(Clone, Copy)]
 struct Counted {
     counts: Tally,
     read: bool,
 }
 
 // The reports of a capture, from its first octet to its last.
-fn count(fd: i32, name: &[u8]) -> Counted {
+fn count<R: System, F: Read, I: Read>(rt: &R, file: &mut File<F, I>, name: &[u8]) -> Counted {
     let mut counts = tally::empty();
     let opening = opened();
     let Opening::Opened(receiver) = opening else {
@@ -73,46 +78,49 @@ fn count(fd: i32, name: &[u8]) -> Counted {
             read: false,
         };
     };
-    let mut buffer = io::large_buffer();
+    let mut buffer = [0u8; 65536];
     let mut first = [0u8; 2051];
     let mut second = [0u8; 2051];
     let mut state = receiver;
-    let mut got = libc::read(fd, &mut buffer);
-    if got < 0 {
-        unread(name);
-        return Counted {
-            counts,
-            read: false,
-        };
-    }
+    let mut got = match files::read(file, &mut buffer) {
+        Ok(got) => got,
+        Err(error) => {
+            unread(rt, name, error);
+            return Counted {
+                counts,
+                read: false,
+            };
+        }
+    };
     let mut reads = u64::MAX;
     while reads > 0 {
-        if got <= 0 {
+        if got == 0 {
             break;
         }
-        let n = io::count(got, &buffer);
-        let counted = transcript::count(state, counts, &buffer[..n], &mut first, &mut second);
+        let counted = transcript::count(state, counts, &buffer[..got], &mut first, &mut second);
         state = counted.state;
         counts = counted.counts;
-        got = libc::read(fd, &mut buffer);
+        match files::read(file, &mut buffer) {
+            Ok(n) => got = n,
+            Err(error) => {
+                ended_early(rt, name, error);
+                break;
+            }
+        }
         reads -= 1;
-    }
-    if got < 0 {
-        ended_early(name);
     }
     Counted { counts, read: true }
 }
 
-// The answer says whether all was written.
-fn print(counts: Tally) -> bool {
-    let mut page = io::buffer();
+fn print<R: System>(rt: &R, counts: Tally) -> io::Result<()> {
+    let mut page = [0u8; 4096];
     let mut filled = 0usize;
     let mut place = 0usize;
     while place < tally::COUNTS {
         filled = line(place, counts.counts[place], &mut page, filled);
         place += 1;
     }
-    write_out(&page, filled)
+    write_out(rt, &page, filled)
 }
 
 // A count's line: its name and the number.
@@ -135,24 +143,23 @@ fn name(place: usize, page: &mut [u8], filled: usize) -> usize {
     }
 }
 
-fn write_out(page: &[u8], filled: usize) -> bool {
+fn write_out<R: System>(rt: &R, page: &[u8], filled: usize) -> io::Result<()> {
     if filled <= page.len() {
-        if io::write_all(STDOUT_FILENO, &page[0..filled]) {
-            return true;
-        }
+        return rt.write_all(&page[0..filled]);
     }
-    files::unwritten(b"count");
-    false
+    Err(Error::from(ErrorKind::WriteZero))
 }
 
-fn unread(name: &[u8]) {
-    files::fail(b"count", name, b"cannot be read");
+fn unread<R: System>(rt: &R, name: &[u8], error: Error) {
+    files::fail(rt, b"count", name, b"cannot be read", error);
 }
 
-fn ended_early(name: &[u8]) {
+fn ended_early<R: System>(rt: &R, name: &[u8], error: Error) {
     files::fail(
+        rt,
         b"count",
         name,
         b"cannot be read further; the counts are those of what came before",
+        error,
     );
 }

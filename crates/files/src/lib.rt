@@ -3,59 +3,122 @@
 #![tactic(auto)]
 
 ghost use Rattle.std.specs.Prelude.{true, false, ◌≡◌, ◌≤◌, length};
+ghost use Rattle.std.specs.Io.{ReadsAtMost};
 
-use libc::{STDERR_FILENO, STDIN_FILENO, STDOUT_FILENO};
+use std::env::{Env, FillError};
+use std::fmt::Write;
+use std::io::{Error, ErrorKind, Input, Print, Read, Stderr};
+use std::process::ExitCode;
+use std::rt::Files;
+use std::{fmt, fs, io};
 
-// A file to read: its descriptor, below 0 where it could not be opened; and how many octets, from the start of the area that was lent for it, are its
-// name. Standard input has a name of none.
+// What a program takes of the system: its arguments, the files, standard input, standard output, and standard error.
+pub trait System: Env + Files + Input + Print {
+    type Errors: Print + Drop;
+
+    fn errors(&self) -> Self::Errors;
+}
+
+impl System for HostRuntime {
+    type Errors = Stderr;
+
+    fn errors(&self) -> Stderr {
+        self.stderr()
+    }
+}
+
+// Where the octets of a file come from. Nowhere: it could not be opened.
 #[derive(Drop)]
-pub struct File {
-    pub fd: i32,
+pub enum Source<F, I> {
+    Nowhere,
+    Standard(I),
+    Opened(F),
+}
+
+// A file to read: its source; and how many octets, from the start of the area that was lent for it, are its name. Standard input has a name of none.
+#[derive(Drop)]
+pub struct File<F, I> {
+    pub source: Source<F, I>,
     pub named: usize,
 }
 
-// What a program prints, between two files. headings: each file's part is headed by its name; begun: there is a part already; on: all was written.
-#[derive(Drop)]
+// What a program prints, between two files. headings: each file's part is headed by its name; begun: there is a part already; on: all was written;
+// deserted: not all was, since nobody reads on.
+#[derive(Clone, Copy)]
 pub struct Output {
     pub headings: bool,
     pub begun: bool,
     pub on: bool,
+    pub deserted: bool,
 }
+
+// The system's numbers for what is found wrong before it is asked.
+const NO_SUCH_ARGUMENT: i32 = 22;
+
+const NAME_TOO_LONG: i32 = 36;
+
+const NAME_NO_TEXT: i32 = 84;
 
 // ---- the arguments
 
 // The files are the arguments 1, 2 and so on, up to this number, which is none of them.
-pub fn end() -> usize
+pub fn end<R: System>(rt: &R) -> usize
     ensures { 2 ≤ result }
 {
-    let words = os::arg_count();
+    let words = argument_count(rt);
     if words < 2 { 2 } else { words }
 }
 
-const STANDARD_INPUT: File = File {
-    fd: STDIN_FILENO,
-    named: 0,
-};
+fn argument_count<R: System>(rt: &R) -> usize {
+    let mut words = 0usize;
+    for number in 0..usize::MAX {
+        if !is_argument(rt, number) {
+            break;
+        }
+        words = number + 1;
+    }
+    words
+}
+
+// An argument that has no room is there.
+fn is_argument<R: System>(rt: &R, number: usize) -> bool {
+    match rt.arg(number, &mut []) {
+        Ok(_) | Err(FillError::TooLong) => true,
+        Err(FillError::NotPresent) => false,
+    }
+}
+
+fn standard_input<R: System>(rt: &R) -> File<R::File, R::Reader>
+    ensures { result.named ≤ 0 }
+{
+    File {
+        source: Source::Standard(rt.reader()),
+        named: 0,
+    }
+}
 
 // Opens the file of an argument, and puts its name into the area. One that cannot be opened is complained of.
-pub fn open(program: &[u8], number: usize, name: &mut [u8]) -> File
+pub fn open<R: System>(
+    rt: &R,
+    program: &[u8],
+    number: usize,
+    name: &mut [u8],
+) -> File<R::File, R::Reader>
     ensures { result.named ≤ length name.new }
 {
-    if os::arg_count() < 2 {
-        return STANDARD_INPUT;
+    if !is_argument(rt, 1) {
+        return standard_input(rt);
     }
-    let n = os::arg(number, name);
-    if os::errno() != 0 {
-        return too_long(program, name);
-    }
+    let n = match rt.arg(number, name) {
+        Ok(n) => n,
+        Err(FillError::TooLong) => return too_long(rt, program, name, NAME_TOO_LONG),
+        Err(FillError::NotPresent) => return too_long(rt, program, name, NO_SUCH_ARGUMENT),
+    };
     if is_dash(&name[..n]) {
-        return STANDARD_INPUT;
+        return standard_input(rt);
     }
-    let fd = os::open_read(&name[..n]);
-    if fd < 0 {
-        unopened(program, &name[..n]);
-    }
-    File { fd, named: n }
+    let source = find(rt, program, &name[..n]);
+    File { source, named: n }
 }
 
 fn is_dash(name: &[u8]) -> bool {
@@ -65,104 +128,219 @@ fn is_dash(name: &[u8]) -> bool {
     name[0] == b'-'
 }
 
-// Standard input stays open: it may be named twice, and has nothing left the second time.
-pub fn close(file: File) {
-    if 0 < file.named {
-        libc::close(file.fd);
+fn find<R: System>(rt: &R, program: &[u8], name: &[u8]) -> Source<R::File, R::Reader> {
+    match open_by_name(rt, name) {
+        Ok(file) => Source::Opened(file),
+        Err(error) => {
+            unopened(rt, program, name, error);
+            Source::Nowhere
+        }
     }
 }
+
+// The library opens files by names that are UTF-8 alone.
+fn open_by_name<R: System>(rt: &R, name: &[u8]) -> io::Result<R::File> {
+    match std::str::from_utf8(name) {
+        Ok(path) => fs::open(rt, path),
+        Err(_) => Err(Error::from_raw_os_error(NAME_NO_TEXT)),
+    }
+}
+
+// The file could be opened.
+pub fn is_open<F, I>(file: &File<F, I>) -> bool {
+    match file.source {
+        Source::Nowhere => false,
+        Source::Standard(_) | Source::Opened(_) => true,
+    }
+}
+
+// The next octets of a file, as many as one call of the system gives; none at its end.
+pub fn read<F: Read, I: Read>(file: &mut File<F, I>, area: &mut [u8]) -> io::Result<usize>
+    ensures { ReadsAtMost result area.new }
+{
+    match &mut file.source {
+        Source::Nowhere => Ok(0),
+        Source::Standard(input) => input.read(area),
+        Source::Opened(opened) => opened.read(area),
+    }
+}
+
+// Standard input stays open: it may be named twice, and has nothing left the second time.
+pub fn close<F: Drop, I: Drop>(_file: File<F, I>) {}
 
 // ---- messages, on standard error
 
-fn say(words: &[u8]) {
-    io::write_all(STDERR_FILENO, words);
+fn say<R: System>(rt: &R, words: &[u8]) {
+    let _ = rt.errors().write_all(words);
 }
 
-fn write_name(fd: i32, name: &[u8]) -> bool {
+fn write_name<P: Print>(to: &P, name: &[u8]) -> io::Result<()> {
     if name.len() == 0 {
-        return io::write_all(fd, b"standard input");
+        return to.write_all(b"standard input");
     }
-    io::write_all(fd, name)
+    to.write_all(name)
 }
 
 // How a message about a file begins: PROGRAM: NAME:
-pub fn complain(program: &[u8], name: &[u8]) {
-    say(program);
-    say(b": ");
-    write_name(STDERR_FILENO, name);
-    say(b": ");
+pub fn complain<R: System>(rt: &R, program: &[u8], name: &[u8]) {
+    say(rt, program);
+    say(rt, b": ");
+    let _ = write_name(&rt.errors(), name);
+    say(rt, b": ");
 }
 
 // A message about a file, with the system's reason for what has just failed.
-pub fn fail(program: &[u8], name: &[u8], what: &[u8]) {
-    complain(program, name);
-    os::fail(what);
+pub fn fail<R: System>(rt: &R, program: &[u8], name: &[u8], what: &[u8], error: Error) {
+    complain(rt, program, name);
+    give_reason(rt, what, error);
+}
+
+// How a message ends: what failed, and the system's reason.
+pub fn give_reason<R: System>(rt: &R, what: &[u8], error: Error) {
+    let mut reason = Reason {
+        octets: [0; 128],
+        length: 0,
+    };
+    let _ = write!(reason, "{error}");
+    say(rt, what);
+    say(rt, b": ");
+    say(rt, reason.words());
+    say(rt, b"\n");
+}
+
+// An error as the library prints it: the system's words, and behind them its number.
+#[derive(Drop)]
+struct Reason {
+    octets: [u8; 128],
+    length: usize,
+}
+
+impl Write for Reason {
+    fn write_str(&mut self, words: &str) -> fmt::Result {
+        for octet in words.as_bytes() {
+            if self.length < 128 {
+                self.octets[self.length] = *octet;
+                self.length += 1;
+            }
+        }
+        Ok(())
+    }
+}
+
+const NUMBER: &[u8] = b" (os error ";
+
+impl Reason {
+    // The words without the number.
+    fn words(&self) -> &[u8] {
+        if self.length > 128 {
+            return &[];
+        }
+        let all = &self.octets[..self.length];
+        for at in 0..all.len() {
+            if all[at..].starts_with(NUMBER) {
+                return &all[..at];
+            }
+        }
+        all
+    }
 }
 
 // An argument longer than any file's name: it is known by its first octets.
-fn too_long(program: &[u8], name: &[u8]) -> File
+fn too_long<R: System>(rt: &R, program: &[u8], name: &[u8], number: i32) -> File<R::File, R::Reader>
     ensures { result.named ≤ 0 }
 {
-    say(program);
-    say(b": ");
+    say(rt, program);
+    say(rt, b": ");
     if 32 <= name.len() {
-        say(&name[0..32]);
+        say(rt, &name[0..32]);
     }
-    os::fail(b"..: cannot be read");
-    File { fd: -1, named: 0 }
+    give_reason(rt, b"..: cannot be read", Error::from_raw_os_error(number));
+    File {
+        source: Source::Nowhere,
+        named: 0,
+    }
 }
 
-fn unopened(program: &[u8], name: &[u8]) {
+fn unopened<R: System>(rt: &R, program: &[u8], name: &[u8], error: Error) {
     if name.len() == 0 {
-        return fail(program, b"''", b"cannot be read");
+        return fail(rt, program, b"''", b"cannot be read", error);
     }
-    fail(program, name, b"cannot be read")
+    fail(rt, program, name, b"cannot be read", error)
 }
 
-// Standard output has failed.
-pub fn unwritten(program: &[u8]) {
-    say(program);
-    os::fail(b": standard output: cannot be written, and the rest is missing there");
+// Standard output has failed. Where nobody reads on, nothing is said of that.
+pub fn unwritten<R: System>(rt: &R, program: &[u8], error: Error) {
+    if is_deserted(error) {
+        return;
+    }
+    say(rt, program);
+    give_reason(
+        rt,
+        b": standard output: cannot be written, and the rest is missing there",
+        error,
+    );
 }
 
-// ---- headings, on standard output
+// ---- standard output
 
-pub fn nothing_printed() -> Output
+// Nobody reads on.
+pub fn is_deserted(error: Error) -> bool {
+    error.kind() == ErrorKind::BrokenPipe
+}
+
+// The exit status of a program: 141 where nobody reads on, as if the system's signal for that had ended it, and 0 else.
+pub fn status(deserted: bool) -> ExitCode {
+    if deserted {
+        ExitCode::from(141)
+    } else {
+        ExitCode::SUCCESS
+    }
+}
+
+// Standard output has failed: it is complained of, and nothing more is printed.
+pub fn stop<R: System>(rt: &R, program: &[u8], output: Output, error: Error) -> Output
+    ensures begun { result.begun ≡ output.begun }
+    ensures headings { result.headings ≡ output.headings }
+    ensures on { result.on ≡ false }
+{
+    unwritten(rt, program, error);
+    let mut after = output;
+    after.on = false;
+    after.deserted = is_deserted(error);
+    after
+}
+
+pub fn nothing_printed<R: System>(rt: &R) -> Output
     ensures { (result.begun ≡ false) × (result.on ≡ true) }
 {
     Output {
-        headings: 2 < end(),
+        headings: 2 < end(rt),
         begun: false,
         on: true,
+        deserted: false,
     }
 }
 
 // Begins a file's part: where there are several files, by ==> NAME <== and, from the second on, an empty line before it, as head and tail do.
-pub fn head(program: &[u8], name: &[u8], output: Output) -> Output
+pub fn head<R: System>(rt: &R, program: &[u8], name: &[u8], output: Output) -> Output
     ensures { (result.begun ≡ true) × (result.headings ≡ output.headings) }
 {
     let mut after = output;
     after.begun = true;
     if output.headings {
-        after.on = write_heading(name, output.begun);
-        if !after.on {
-            unwritten(program);
+        after.on = true;
+        if let Err(error) = write_heading(rt, name, output.begun) {
+            return stop(rt, program, after, error);
         }
     }
     after
 }
 
-fn write_heading(name: &[u8], parted: bool) -> bool {
+fn write_heading<R: System>(rt: &R, name: &[u8], parted: bool) -> io::Result<()> {
     if parted {
-        if !io::write_all(STDOUT_FILENO, b"\n") {
-            return false;
-        }
+        rt.write_all(b"\n")?;
     }
-    if !io::write_all(STDOUT_FILENO, b"==> ") {
-        return false;
-    }
-    if !write_name(STDOUT_FILENO, name) {
-        return false;
-    }
-    io::write_all(STDOUT_FILENO, b" <==\n")
+    rt.write_all(b"==> ")?;
+    write_name(rt, name)?;
+    rt.write_all(b" <==\n")
 }

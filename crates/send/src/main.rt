@@ -3,9 +3,12 @@
 
 ghost use Rattle.std.specs.Prelude.{◌≡◌, ◌<◌, ◌≤◌, length};
 
-use libc::{STDERR_FILENO, STDOUT_FILENO};
+use files::{File, System};
 use link::Settings;
 use link::sender::{Lane, LoadAnswer, Opening, Sender};
+use std::io;
+use std::io::{Error, Print, Read};
+use std::process::ExitCode;
 
 // Octets of a record before its packet: the lane, and two numbers of two octets.
 const HEAD: usize = 5;
@@ -13,11 +16,13 @@ const HEAD: usize = 5;
 // The limit, where a file says none: document 01's.
 const DEFAULT_LIMIT: u16 = 2048;
 
-// The sender, and how many octets on the page are still to be written. on: there was no fault, and all was written.
-#[derive(Drop)]
+// The sender, and how many octets on the page are still to be written. on: there was no fault, and all was written;
+// deserted: not all was, since nobody reads on.
+#[derive(Clone, Copy)]
 struct Line {
     filled: usize,
     on: bool,
+    deserted: bool,
     state: Sender,
 }
 
@@ -25,7 +30,7 @@ struct Line {
 #[derive(Drop)]
 enum Fault {
     Nothing,
-    Unread,
+    Unread(Error),
     CutShort,
     WrongLane,
     Refused,
@@ -57,7 +62,7 @@ struct Taken {
 // What a read answered, and how many octets of the input there are then.
 #[derive(Drop)]
 struct Came {
-    got: isize,
+    got: io::Result<usize>,
     octets: usize,
 }
 
@@ -76,7 +81,7 @@ struct Rest {
 // One octet of a file, and what the read answered.
 #[derive(Drop)]
 struct OneOctet {
-    got: isize,
+    got: io::Result<usize>,
     octet: u8,
 }
 
@@ -88,81 +93,102 @@ struct Start {
     first: u8,
 }
 
-// A line at its end, and where in the file that is: behind so many records and so many octets. written: all that was sent is.
+// A line at its end, and where in the file that is: behind so many records and so many octets. written: all that was sent is;
+// deserted: it is not, since nobody reads on.
 #[derive(Drop)]
 struct Outcome {
     fault: Fault,
     records: u64,
     octets: u64,
     written: bool,
+    deserted: bool,
 }
 
-fn main() {
-    let end = files::end();
-    let mut number = 1usize;
-    while number < end {
-        if !file(number) {
-            return;
+// What became of a file. Whole: all of it was sent; Cut: it was not; Deserted: nobody reads on.
+#[derive(Clone, Copy)]
+enum Ending {
+    Whole,
+    Cut,
+    Deserted,
+}
+
+fn main(rt: HostRuntime) -> ExitCode {
+    for number in 1..files::end(&rt) {
+        match file(&rt, number) {
+            Ending::Whole => {}
+            Ending::Cut => return files::status(false),
+            Ending::Deserted => return files::status(true),
         }
-        number += 1;
     }
+    files::status(false)
 }
 
 // The file that an argument names. The answer says whether all of it was sent.
-fn file(number: usize) -> bool {
-    let mut name = io::buffer();
-    let file = files::open(b"send", number, &mut name);
-    let fd = file.fd;
-    if fd < 0 {
-        return false;
+fn file<R: System>(rt: &R, number: usize) -> Ending {
+    let mut name = [0u8; 4096];
+    let mut file = files::open(rt, b"send", number, &mut name);
+    if !files::is_open(&file) {
+        return Ending::Cut;
     }
     let n = file.named;
-    let whole = head(fd, &name[0..n]);
+    let whole = head(rt, &mut file, &name[0..n]);
     files::close(file);
     whole
 }
 
 // What a file has before its records: the settings octet, the width behind a W where there is one, and the limit. The answer says whether all
 // of the file was sent.
-fn head(fd: i32, name: &[u8]) -> bool {
-    let settings = octet(fd);
-    if settings.got <= 0 {
+fn head<R: System, F: Read, I: Read>(rt: &R, file: &mut File<F, I>, name: &[u8]) -> Ending {
+    let settings = octet(file);
+    if !has_read(settings.got) {
         return missing(
+            rt,
             settings.got,
             name,
             b"it is empty, there is no settings octet\n",
         );
     }
-    let next = octet(fd);
-    if (0 < next.got) & (next.octet == b'W') {
-        let width = octet(fd);
-        if width.got <= 0 {
+    let next = octet(file);
+    if has_read(next.got) & (next.octet == b'W') {
+        let width = octet(file);
+        if !has_read(width.got) {
             return missing(
+                rt,
                 width.got,
                 name,
                 b"it is cut short, there is no width behind its W\n",
             );
         }
-        return behind_width(fd, settings.octet, width.octet, octet(fd), 3, name);
+        let behind = octet(file);
+        return behind_width(rt, file, settings.octet, width.octet, behind, 3, name);
     }
-    behind_width(fd, settings.octet, 16, next, 1, name)
+    behind_width(rt, file, settings.octet, 16, next, 1, name)
 }
 
 // What a file has behind the width: the limit behind an M where there is one. next: the octet at this place.
-fn behind_width(fd: i32, settings: u8, width: u8, next: OneOctet, place: u64, name: &[u8]) -> bool
+fn behind_width<R: System, F: Read, I: Read>(
+    rt: &R,
+    file: &mut File<F, I>,
+    settings: u8,
+    width: u8,
+    next: OneOctet,
+    place: u64,
+    name: &[u8],
+) -> Ending
     requires { place ≤ 3 }
 {
-    if (0 < next.got) & (next.octet == b'M') {
-        let high = octet(fd);
-        if high.got <= 0 {
-            return no_limit(high.got, name);
+    if has_read(next.got) & (next.octet == b'M') {
+        let high = octet(file);
+        if !has_read(high.got) {
+            return no_limit(rt, high.got, name);
         }
-        let low = octet(fd);
-        if low.got <= 0 {
-            return no_limit(low.got, name);
+        let low = octet(file);
+        if !has_read(low.got) {
+            return no_limit(rt, low.got, name);
         }
         return open(
-            fd,
+            rt,
+            file,
             Settings {
                 octet: settings,
                 width,
@@ -177,7 +203,8 @@ fn behind_width(fd: i32, settings: u8, width: u8, next: OneOctet, place: u64, na
         );
     }
     open(
-        fd,
+        rt,
+        file,
         Settings {
             octet: settings,
             width,
@@ -192,46 +219,60 @@ fn behind_width(fd: i32, settings: u8, width: u8, next: OneOctet, place: u64, na
     )
 }
 
+// Whether a read gave octets: it did not fail, nor was it at the end.
+fn has_read(got: io::Result<usize>) -> bool {
+    match got {
+        Ok(octets) => 0 < octets,
+        Err(_) => false,
+    }
+}
+
 // How many octets a read of one has read, 0 or 1.
-fn read_one(got: isize) -> usize
+fn read_one(got: io::Result<usize>) -> usize
     ensures { result ≤ 1 }
 {
-    if got <= 0 {
+    if !has_read(got) {
         return 0;
     }
     1
 }
 
 // The sender is opened, and the records are sent.
-fn open(fd: i32, settings: Settings, records: Start, name: &[u8]) -> bool
+fn open<R: System, F: Read, I: Read>(
+    rt: &R,
+    file: &mut File<F, I>,
+    settings: Settings,
+    records: Start,
+    name: &[u8],
+) -> Ending
     requires { records.kept ≤ 1 }
 {
     let opening = link::sender::open(settings);
     match opening {
         Opening::Opened(sender) => {
-            let outcome = all(fd, sender, records);
-            told(outcome, settings.limit, name)
+            let outcome = all(rt, file, sender, records);
+            told(rt, outcome, settings.limit, name)
         }
         Opening::Refused(n) => {
-            files::complain(b"send", name);
+            files::complain(rt, b"send", name);
             if n == 23 {
-                say(b"its limit is ");
-                io::print_decimal(STDERR_FILENO, settings.limit as u64);
-                say(b", not from 2 to 16384\n");
+                say(rt, b"its limit is ");
+                say_number(rt, settings.limit as u64);
+                say(rt, b", not from 2 to 16384\n");
             } else {
-                say(b"its width is ");
-                io::print_decimal(STDERR_FILENO, settings.width as u64);
-                say(b", neither 16 nor 32\n");
+                say(rt, b"its width is ");
+                say_number(rt, settings.width as u64);
+                say(rt, b", neither 16 nor 32\n");
             }
-            false
+            Ending::Cut
         }
     }
 }
 
 // One octet, and what the read answered.
-fn octet(fd: i32) -> OneOctet {
+fn octet<F: Read, I: Read>(file: &mut File<F, I>) -> OneOctet {
     let mut octets = [0u8; 1];
-    let got = libc::read(fd, &mut octets);
+    let got = files::read(file, &mut octets);
     OneOctet {
         got,
         octet: octets[0],
@@ -239,17 +280,23 @@ fn octet(fd: i32) -> OneOctet {
 }
 
 // The line of a file's records.
-fn all(fd: i32, sender: Sender, from: Start) -> Outcome
+fn all<R: System, F: Read, I: Read>(
+    rt: &R,
+    file: &mut File<F, I>,
+    sender: Sender,
+    from: Start,
+) -> Outcome
     requires { from.kept ≤ 1 }
 {
     let mut input = input_buffer();
-    let mut page = io::large_buffer();
+    let mut page = [0u8; 65536];
     let mut low = lane_buffer();
     let mut high = lane_buffer();
     let mut line = Line {
         state: sender,
         filled: 0,
         on: true,
+        deserted: false,
     };
     input[0] = from.first;
     let mut kept = from.kept;
@@ -258,12 +305,14 @@ fn all(fd: i32, sender: Sender, from: Start) -> Outcome
     let mut fault = Fault::Nothing;
     let mut reads = u64::MAX;
     while reads > 0 {
-        let rest = read(fd, line, kept, &mut input, &mut low, &mut high, &mut page);
+        let rest = read(
+            rt, file, line, kept, &mut input, &mut low, &mut high, &mut page,
+        );
         line = rest.line;
         fault = rest.fault;
         kept = rest.kept;
-        records = std::num::wrapping_add_u64(records, rest.records as u64);
-        octets = std::num::wrapping_add_u64(octets, rest.used as u64);
+        records = records.wrapping_add(rest.records as u64);
+        octets = octets.wrapping_add(rest.used as u64);
         if rest.over {
             break;
         }
@@ -274,6 +323,7 @@ fn all(fd: i32, sender: Sender, from: Start) -> Outcome
         records,
         octets,
         written: line.on,
+        deserted: line.deserted,
     }
 }
 
@@ -299,8 +349,9 @@ fn number(high: u8, low: u8) -> u16 {
 // ---- the input
 
 // One read, and the records that are whole with it.
-fn read(
-    fd: i32,
+fn read<R: System, F: Read, I: Read>(
+    rt: &R,
+    file: &mut File<F, I>,
     line: Line,
     kept: usize,
     input: &mut [u8],
@@ -311,9 +362,9 @@ fn read(
     requires { (line.filled < length page.old) × (kept ≤ length input.old) }
     ensures { (result.line.filled < length page.new) × (result.kept ≤ length input.new) }
 {
-    let came = more(fd, kept, input);
-    if came.got <= 0 {
-        let over = finish(line, came.got, kept, low, high, page);
+    let came = more(file, kept, input);
+    if !has_read(came.got) {
+        let over = finish(rt, line, came.got, kept, low, high, page);
         let after = over.line;
         let fault = over.fault;
         return Rest {
@@ -326,16 +377,19 @@ fn read(
         };
     }
     let n = came.octets;
-    let taken = records(line, &input[0..n], low, high, page);
+    let taken = records(rt, line, &input[0..n], low, high, page);
     rest_of(taken, n, input)
 }
 
-fn more(fd: i32, kept: usize, input: &mut [u8]) -> Came
+fn more<F: Read, I: Read>(file: &mut File<F, I>, kept: usize, input: &mut [u8]) -> Came
     requires { kept ≤ length input.old }
     ensures { result.octets ≤ length input.new }
 {
-    let got = libc::read(fd, &mut input[kept..]);
-    let octets = kept + io::count(got, &input[kept..]);
+    let got = files::read(file, &mut input[kept..]);
+    let octets = match got {
+        Ok(more) => kept + more,
+        Err(_) => kept,
+    };
     Came { got, octets }
 }
 
@@ -358,18 +412,26 @@ fn rest_of(taken: Taken, n: usize, input: &mut [u8]) -> Rest
 }
 
 // The end of the input: what the sender holds is sent.
-fn finish(line: Line, got: isize, kept: usize, low: &[u8], high: &[u8], page: &mut [u8]) -> Carried
+fn finish<R: System>(
+    rt: &R,
+    line: Line,
+    got: io::Result<usize>,
+    kept: usize,
+    low: &[u8],
+    high: &[u8],
+    page: &mut [u8],
+) -> Carried
     requires { line.filled < length page.old }
     ensures { result.line.filled < length page.new }
 {
-    if got < 0 {
-        return stop(line, Fault::Unread, page);
+    if let Err(error) = got {
+        return stop(rt, line, Fault::Unread(error), page);
     }
     if 0 < kept {
-        return stop(line, Fault::CutShort, page);
+        return stop(rt, line, Fault::CutShort, page);
     }
-    let idle = send(line, 0xffff_ffff_ffff_ffff, low, high, page);
-    let written = write_out(idle, page);
+    let idle = send(rt, line, 0xffff_ffff_ffff_ffff, low, high, page);
+    let written = write_out(rt, idle, page);
     Carried {
         line: written,
         fault: Fault::Nothing,
@@ -390,7 +452,14 @@ fn keep(from: usize, to: usize, input: &mut [u8]) -> usize
 }
 
 // The records of a stretch of input, up to the first that is not whole or has a fault.
-fn records(line: Line, octets: &[u8], low: &mut [u8], high: &mut [u8], page: &mut [u8]) -> Taken
+fn records<R: System>(
+    rt: &R,
+    line: Line,
+    octets: &[u8],
+    low: &mut [u8],
+    high: &mut [u8],
+    page: &mut [u8],
+) -> Taken
     requires { line.filled < length page.old }
     ensures { (result.line.filled < length page.new) × (result.used ≤ length octets.now) }
 {
@@ -399,7 +468,7 @@ fn records(line: Line, octets: &[u8], low: &mut [u8], high: &mut [u8], page: &mu
     let mut whole = 0usize;
     let mut at = 0usize;
     while at < octets.len() {
-        let taken = record(end, &octets[at..], low, high, page);
+        let taken = record(rt, end, &octets[at..], low, high, page);
         end = taken.line;
         fault = taken.fault;
         let used = taken.used;
@@ -418,7 +487,14 @@ fn records(line: Line, octets: &[u8], low: &mut [u8], high: &mut [u8], page: &mu
 }
 
 // The first record of a stretch; no octet is used where it is not whole or has a fault.
-fn record(line: Line, octets: &[u8], low: &mut [u8], high: &mut [u8], page: &mut [u8]) -> Taken
+fn record<R: System>(
+    rt: &R,
+    line: Line,
+    octets: &[u8],
+    low: &mut [u8],
+    high: &mut [u8],
+    page: &mut [u8],
+) -> Taken
     requires { line.filled < length page.old }
     ensures { (result.line.filled < length page.new) × (result.used ≤ length octets.now) }
 {
@@ -430,7 +506,16 @@ fn record(line: Line, octets: &[u8], low: &mut [u8], high: &mut [u8], page: &mut
         return not_taken(line, Fault::Nothing);
     }
     let wait = number(octets[1], octets[2]) as usize;
-    let carried = carry_out(line, octets[0], wait, &octets[HEAD..used], low, high, page);
+    let carried = carry_out(
+        rt,
+        line,
+        octets[0],
+        wait,
+        &octets[HEAD..used],
+        low,
+        high,
+        page,
+    );
     let after = carried.line;
     let fault = carried.fault;
     if !after.on {
@@ -445,7 +530,8 @@ fn record(line: Line, octets: &[u8], low: &mut [u8], high: &mut [u8], page: &mut
 }
 
 // A record, with its lane octet.
-fn carry_out(
+fn carry_out<R: System>(
+    rt: &R,
     line: Line,
     lane: u8,
     wait: usize,
@@ -459,18 +545,25 @@ fn carry_out(
 {
     match lane {
         b'L' => {
-            let free = make_way(line, Lane::Low, wait, low, high, page);
-            load(free, Lane::Low, packet, low, page)
+            let free = make_way(rt, line, Lane::Low, wait, low, high, page);
+            load(rt, free, Lane::Low, packet, low, page)
         }
         b'H' => {
-            let free = make_way(line, Lane::High, wait, low, high, page);
-            load(free, Lane::High, packet, high, page)
+            let free = make_way(rt, line, Lane::High, wait, low, high, page);
+            load(rt, free, Lane::High, packet, high, page)
         }
-        _ => stop(line, Fault::WrongLane, page),
+        _ => stop(rt, line, Fault::WrongLane, page),
     }
 }
 
-fn load(line: Line, lane: Lane, packet: &[u8], area: &mut [u8], page: &[u8]) -> Carried
+fn load<R: System>(
+    rt: &R,
+    line: Line,
+    lane: Lane,
+    packet: &[u8],
+    area: &mut [u8],
+    page: &[u8],
+) -> Carried
     requires { line.filled < length page.now }
     ensures { result.line.filled < length page.now }
 {
@@ -489,36 +582,52 @@ fn load(line: Line, lane: Lane, packet: &[u8], area: &mut [u8], page: &[u8]) -> 
                 state,
                 filled: line.filled,
                 on: true,
+                deserted: false,
             };
             Carried {
                 line: after,
                 fault: Fault::Nothing,
             }
         }
-        LoadAnswer::Refused(_) => stop(line, Fault::Refused, page),
+        LoadAnswer::Refused(_) => stop(rt, line, Fault::Refused, page),
     }
 }
 
 // ---- the output
 
 // Up to `wait` octets, then further ones while the lane holds a packet.
-fn make_way(line: Line, lane: Lane, wait: usize, low: &[u8], high: &[u8], page: &mut [u8]) -> Line
+fn make_way<R: System>(
+    rt: &R,
+    line: Line,
+    lane: Lane,
+    wait: usize,
+    low: &[u8],
+    high: &[u8],
+    page: &mut [u8],
+) -> Line
     requires { line.filled < length page.old }
     ensures { result.filled < length page.new }
 {
-    let waited = send(line, wait, low, high, page);
-    clear(waited, lane, low, high, page)
+    let waited = send(rt, line, wait, low, high, page);
+    clear(rt, waited, lane, low, high, page)
 }
 
 // Up to so many octets; fewer if the sender gets idle.
-fn send(line: Line, most: usize, low: &[u8], high: &[u8], page: &mut [u8]) -> Line
+fn send<R: System>(
+    rt: &R,
+    line: Line,
+    most: usize,
+    low: &[u8],
+    high: &[u8],
+    page: &mut [u8],
+) -> Line
     requires { line.filled < length page.old }
     ensures { result.filled < length page.new }
 {
     let mut end = line;
     let mut left = most;
     while left > 0 {
-        let step = go_on(end, left, low, high, page);
+        let step = go_on(rt, end, left, low, high, page);
         end = step.line;
         if step.octets == 0 {
             break;
@@ -536,7 +645,14 @@ fn holds(state: Sender, lane: Lane) -> bool {
 }
 
 // Octets while the lane holds a packet: it is free behind a flag.
-fn clear(line: Line, lane: Lane, low: &[u8], high: &[u8], page: &mut [u8]) -> Line
+fn clear<R: System>(
+    rt: &R,
+    line: Line,
+    lane: Lane,
+    low: &[u8],
+    high: &[u8],
+    page: &mut [u8],
+) -> Line
     requires { line.filled < length page.old }
     ensures { result.filled < length page.new }
 {
@@ -547,7 +663,7 @@ fn clear(line: Line, lane: Lane, low: &[u8], high: &[u8], page: &mut [u8]) -> Li
         if !holds(state, lane) {
             break;
         }
-        let step = go_on(end, 0xffff_ffff_ffff_ffff, low, high, page);
+        let step = go_on(rt, end, 0xffff_ffff_ffff_ffff, low, high, page);
         end = step.line;
         if step.octets == 0 {
             break;
@@ -558,7 +674,14 @@ fn clear(line: Line, lane: Lane, low: &[u8], high: &[u8], page: &mut [u8]) -> Li
 }
 
 // Up to so many octets, no further than to a flag or to the page's end; none if the sender is idle.
-fn go_on(line: Line, most: usize, low: &[u8], high: &[u8], page: &mut [u8]) -> Step
+fn go_on<R: System>(
+    rt: &R,
+    line: Line,
+    most: usize,
+    low: &[u8],
+    high: &[u8],
+    page: &mut [u8],
+) -> Step
     requires { line.filled < length page.old }
     ensures { (result.line.filled < length page.new) × (result.octets ≤ most) }
 {
@@ -574,43 +697,45 @@ fn go_on(line: Line, most: usize, low: &[u8], high: &[u8], page: &mut [u8]) -> S
         state,
         filled: filled + octets,
         on: true,
+        deserted: false,
     };
-    let next = turn(after, page);
+    let next = turn(rt, after, page);
     Step { line: next, octets }
 }
 
 // A full page is written out.
-fn turn(line: Line, page: &[u8]) -> Line
+fn turn<R: System>(rt: &R, line: Line, page: &[u8]) -> Line
     requires { (line.filled ≤ length page.now) × (0 < length page.now) }
     ensures { result.filled < length page.now }
 {
     if line.filled < page.len() {
         return line;
     }
-    write_out(line, page)
+    write_out(rt, line, page)
 }
 
 // The page is written to standard output, or complained of.
-fn write_out(line: Line, page: &[u8]) -> Line
+fn write_out<R: System>(rt: &R, line: Line, page: &[u8]) -> Line
     requires { line.filled ≤ length page.now }
     ensures { result.filled ≤ 0 }
 {
     let mut fresh = line;
     fresh.filled = 0;
     let filled = line.filled;
-    if !io::write_all(STDOUT_FILENO, &page[0..filled]) {
-        files::unwritten(b"send");
+    if let Err(error) = rt.write_all(&page[0..filled]) {
+        files::unwritten(rt, b"send", error);
         fresh.on = false;
+        fresh.deserted = files::is_deserted(error);
     }
     fresh
 }
 
 // The line at a fault: what was sent before it is written, and nothing more is sent.
-fn stop(line: Line, fault: Fault, page: &[u8]) -> Carried
+fn stop<R: System>(rt: &R, line: Line, fault: Fault, page: &[u8]) -> Carried
     requires { line.filled ≤ length page.now }
     ensures { result.line.filled ≤ 0 }
 {
-    let mut over = write_out(line, page);
+    let mut over = write_out(rt, line, page);
     over.on = false;
     Carried { line: over, fault }
 }
@@ -628,63 +753,75 @@ fn not_taken(line: Line, fault: Fault) -> Taken
 
 // ---- messages
 
-fn say(words: &[u8]) {
-    io::write_all(STDERR_FILENO, words);
+fn say<R: System>(rt: &R, words: &[u8]) {
+    let _ = rt.errors().write_all(words);
+}
+
+fn say_number<R: System>(rt: &R, n: u64) {
+    let _ = rt.errors().print(n);
 }
 
 // How a message about a record begins. The first record is number 1, the first octet of the file is at place 0.
-fn complain(name: &[u8], records: u64, octets: u64) {
-    files::complain(b"send", name);
-    say(b"record ");
-    io::print_decimal(STDERR_FILENO, std::num::wrapping_add_u64(records, 1));
-    say(b", at octet ");
-    io::print_decimal(STDERR_FILENO, octets);
-    say(b": ");
+fn complain<R: System>(rt: &R, name: &[u8], records: u64, octets: u64) {
+    files::complain(rt, b"send", name);
+    say(rt, b"record ");
+    say_number(rt, records.wrapping_add(1));
+    say(rt, b", at octet ");
+    say_number(rt, octets);
+    say(rt, b": ");
 }
 
 // A message about a fault. The answer says that all was sent and written.
-fn told(outcome: Outcome, limit: u16, name: &[u8]) -> bool {
+fn told<R: System>(rt: &R, outcome: Outcome, limit: u16, name: &[u8]) -> Ending {
+    if outcome.deserted {
+        return Ending::Deserted;
+    }
     let fault = outcome.fault;
     match fault {
-        Fault::Nothing => outcome.written,
-        Fault::Unread => {
-            complain(name, outcome.records, outcome.octets);
-            os::fail(b"the file cannot be read further");
-            false
+        Fault::Nothing => if outcome.written {
+            Ending::Whole
+        } else {
+            Ending::Cut
+        },
+        Fault::Unread(error) => {
+            complain(rt, name, outcome.records, outcome.octets);
+            files::give_reason(rt, b"the file cannot be read further", error);
+            Ending::Cut
         }
         Fault::CutShort => {
-            complain(name, outcome.records, outcome.octets);
-            say(b"it is cut short, the file ends within it\n");
-            false
+            complain(rt, name, outcome.records, outcome.octets);
+            say(rt, b"it is cut short, the file ends within it\n");
+            Ending::Cut
         }
         Fault::WrongLane => {
-            complain(name, outcome.records, outcome.octets);
-            say(b"its lane is neither L nor H\n");
-            false
+            complain(rt, name, outcome.records, outcome.octets);
+            say(rt, b"its lane is neither L nor H\n");
+            Ending::Cut
         }
         Fault::Refused => {
-            complain(name, outcome.records, outcome.octets);
-            say(b"its packet has fewer than 2 or more than ");
-            io::print_decimal(STDERR_FILENO, limit as u64);
-            say(b" octets\n");
-            false
+            complain(rt, name, outcome.records, outcome.octets);
+            say(rt, b"its packet has fewer than 2 or more than ");
+            say_number(rt, limit as u64);
+            say(rt, b" octets\n");
+            Ending::Cut
         }
     }
 }
 
 // A file that cannot be read, or ends, before its records.
-fn missing(got: isize, name: &[u8], words: &[u8]) -> bool {
-    if got < 0 {
-        files::fail(b"send", name, b"cannot be read");
-        return false;
+fn missing<R: System>(rt: &R, got: io::Result<usize>, name: &[u8], words: &[u8]) -> Ending {
+    if let Err(error) = got {
+        files::fail(rt, b"send", name, b"cannot be read", error);
+        return Ending::Cut;
     }
-    files::complain(b"send", name);
-    say(words);
-    false
+    files::complain(rt, b"send", name);
+    say(rt, words);
+    Ending::Cut
 }
 
-fn no_limit(got: isize, name: &[u8]) -> bool {
+fn no_limit<R: System>(rt: &R, got: io::Result<usize>, name: &[u8]) -> Ending {
     missing(
+        rt,
         got,
         name,
         b"it is cut short, there are no two octets of a limit behind its M\n",

@@ -1,5 +1,5 @@
 // What was answered, as octets.
-#[derive(Drop)]
+#[derive(Clone, Copy)]
 pub(crate) struct Answers {
     pub(crate) octets: [u8; 64],
     pub(crate) length: usize,

@@ -4,8 +4,9 @@ use crate::answers::{Answers, none, push_three};
 use crate::rows;
 use crate::rows::Row;
 use cobs::Meaning;
+use std::io::Print;
 
-pub(crate) fn run() {
+pub(crate) fn run<R: Print>(rt: &R) {
     // c, of a block: the refusal that its code gets (Receiver, step 2) or 0, and the code's data octets and zeros. Section 3: the ends of
     // the table's ranges, and what is no code.
     // x, of an octet: itself, what is sent for it, and what it is turned back into.
@@ -15,6 +16,7 @@ pub(crate) fn run() {
     // marked frames (a), (c) and (d), and at the edges of runs and of pairs.
     // n: the same, where so many octets are left and none is zero. The marked case (i) and its neighbours.
     rows::compare_all(
+        rt,
         0,
         0,
         b"c\x01\x00\x00\x04\x01\x03code\x01\x00\x00\x01\

@@ -8,8 +8,8 @@ mod code_blocks;
 mod rows;
 mod two_ends;
 
-fn main() {
-    check_sequence::run();
-    code_blocks::run();
-    two_ends::run();
+fn main(rt: HostRuntime) {
+    check_sequence::run(&rt);
+    code_blocks::run(&rt);
+    two_ends::run(&rt);
 }

@@ -5,10 +5,10 @@ ghost use Rattle.std.specs.Prelude.{◌<◌, ◌≤◌, length};
 
 use crate::answers::Answers;
 use crate::{check_sequence, code_blocks, two_ends};
-use libc::STDOUT_FILENO;
+use std::io::Print;
 
 // A row's head, and where its name and the octets given and expected end.
-#[derive(Drop)]
+#[derive(Clone, Copy)]
 pub(crate) struct Row {
     pub(crate) asked: u8,
     pub(crate) settings: u8,
@@ -45,16 +45,16 @@ fn head(width: u8, limit: u16, row: &[u8]) -> Row
     }
 }
 
-pub(crate) fn compare_all(width: u8, limit: u16, rows: &[u8]) {
+pub(crate) fn compare_all<R: Print>(rt: &R, width: u8, limit: u16, rows: &[u8]) {
     let mut rest = rows;
     while 0 < rest.len() {
-        let n = compare(width, limit, rest);
+        let n = compare(rt, width, limit, rest);
         rest = &rest[n..];
     }
 }
 
 // The first row; answers its length. A row that is cut short ends the list.
-fn compare(width: u8, limit: u16, rows: &[u8]) -> usize
+fn compare<R: Print>(rt: &R, width: u8, limit: u16, rows: &[u8]) -> usize
     requires { 0 < length rows.now }
     ensures { (0 < result) × (result ≤ length rows.now) }
 {
@@ -69,6 +69,7 @@ fn compare(width: u8, limit: u16, rows: &[u8]) -> usize
     let answers = answer(row, octets);
     let list = answers.octets;
     print(
+        rt,
         &rows[7..name],
         octets,
         &list,
@@ -91,29 +92,29 @@ fn answer(row: Row, octets: &[u8]) -> Answers {
 }
 
 // ok or WRONG, the name and of which octets, and the answer; where it is wrong, also the one expected.
-fn print(name: &[u8], of: &[u8], answers: &[u8], length: usize, expected: &[u8]) {
+fn print<R: Print>(rt: &R, name: &[u8], of: &[u8], answers: &[u8], length: usize, expected: &[u8]) {
     if answers.len() < length {
         return;
     }
     let given = &answers[0..length];
-    let right = check::same(given, expected);
+    let right = given == expected;
     if right {
-        io::write_all(STDOUT_FILENO, b"ok    ");
+        let _ = rt.write_all(b"ok    ");
     } else {
-        io::write_all(STDOUT_FILENO, b"WRONG ");
+        let _ = rt.write_all(b"WRONG ");
     }
-    write(name, of);
-    write(b":", given);
+    write(rt, name, of);
+    write(rt, b":", given);
     if !right {
-        write(b", not", expected);
+        write(rt, b", not", expected);
     }
-    io::write_all(STDOUT_FILENO, b"\n");
+    let _ = rt.write_all(b"\n");
 }
 
 // Words, and octets in hexadecimal.
-fn write(words: &[u8], list: &[u8]) {
+fn write<R: Print>(rt: &R, words: &[u8], list: &[u8]) {
     let mut page = [0u8; 1024];
     let begun = lines::text(words, &mut page, 0);
     let end = lines::octets(list, &mut page, begun) % 1025;
-    io::write_all(STDOUT_FILENO, &page[0..end]);
+    let _ = rt.write_all(&page[0..end]);
 }
