@@ -2,8 +2,10 @@
 // input. What is read and written no contract can say. The contracts here say the rest: that there is a file, how long its name is, what is kept of the output.
 #![tactic(auto)]
 
-ghost use Rattle.std.specs.Prelude.{true, false, ◌≡◌, ◌≤◌, length};
+ghost use Rattle.std.specs.Prelude.{true, false, ◌≡◌, ◌≤◌, ◌↔◌, length, IsTrue, if◌then◌else◌};
 ghost use Rattle.std.specs.Io.{ReadsAtMost};
+ghost use Rattle.std.specs.IoError.{error_kind};
+ghost use Rattle.std.specs.Process.{exit_status};
 
 use std::env::{Env, FillError};
 use std::fmt::Write;
@@ -147,7 +149,11 @@ fn open_by_name<R: System>(rt: &R, name: &[u8]) -> io::Result<R::File> {
 }
 
 // The file could be opened.
-pub fn is_open<F, I>(file: &File<F, I>) -> bool {
+pub fn is_open<F, I>(file: &File<F, I>) -> bool
+    ensures nowhere { file.now.source ≡ Source.Nowhere → result ≡ false }
+    ensures standard { (input : I) → file.now.source ≡ Source.Standard input → result ≡ true }
+    ensures opened { (opened : F) → file.now.source ≡ Source.Opened opened → result ≡ true }
+{
     match file.source {
         Source::Nowhere => false,
         Source::Standard(_) | Source::Opened(_) => true,
@@ -284,17 +290,18 @@ pub fn unwritten<R: System>(rt: &R, program: &[u8], error: Error) {
 // ---- standard output
 
 // Nobody reads on.
-pub fn is_deserted(error: Error) -> bool {
+pub fn is_deserted(error: Error) -> bool
+    ensures { IsTrue result ↔ (error_kind error ≡ ErrorKind.BrokenPipe) }
+{
     error.kind() == ErrorKind::BrokenPipe
 }
 
 // The exit status of a program: 141 where nobody reads on, as if the system's signal for that had ended it, and 0 else.
-pub fn status(deserted: bool) -> ExitCode {
-    if deserted {
-        ExitCode::from(141)
-    } else {
-        ExitCode::SUCCESS
-    }
+pub fn status(deserted: bool) -> ExitCode
+    ensures { exit_status result ≡ (if deserted then 141 else 0) }
+{
+    let number = if deserted { 141 } else { 0 };
+    ExitCode::from(number)
 }
 
 // Standard output has failed: it is complained of, and nothing more is printed.
@@ -302,6 +309,7 @@ pub fn stop<R: System>(rt: &R, program: &[u8], output: Output, error: Error) -> 
     ensures begun { result.begun ≡ output.begun }
     ensures headings { result.headings ≡ output.headings }
     ensures on { result.on ≡ false }
+    ensures deserted { IsTrue result.deserted ↔ (error_kind error ≡ ErrorKind.BrokenPipe) }
 {
     unwritten(rt, program, error);
     let mut after = output;
