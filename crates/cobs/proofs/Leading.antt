@@ -1,14 +1,12 @@
--- The count of leading octets that pass a test: what it counts, where it stops, and the turns of a loop that counts.
-use mathlib.Core.Path.{◌≡◌, refl, ap}
+-- The count of leading octets that pass a test: what it counts, and where it stops.
+use mathlib.Core.Path.{◌≡◌, ap}
 use mathlib.Core.Bool.{Bool, true, false, not}
 use mathlib.Core.List.{List, [], ◌∷◌}
-use Prim.Native.Nat.{ℕ, zero, suc, ◌+◌, ◌-◌, ◌≤◌, ◌<◌}
-use native.Mathlib.Numerals.{add-one}
+use Prim.Native.Nat.{ℕ, zero, suc, ◌-◌, ◌≤◌, ◌<◌}
 use native.Mathlib.Omega.{arith}
 use borrow.Author.Tests.{eqb-true, eqb-false, eq-eqb, ne_eqb, ltb-true, ltb-false, not-true, not-false}
 use lib.Dec.{ltb}
-use lib.ListN.{length, drop, get_or}
-use lib.Seq.{drop-cons}
+use lib.ListN.{length, get_or}
 use Rattle.cobs.specs.CodeBlocks.{leading, leading_zeros, leading_nonzeros, is_zero, is_nonzero}
 use Rattle.cobs.proofs.Tests.{branch, decide}
 
@@ -52,21 +50,6 @@ module _ (test : ℕ → Bool) where
   counted (suc n) (suc m) (x ∷ l) h k t =
       let rest : m ≤ leading test n l = counted n m l (omega arith) (omega arith) (λ i j. t (suc i) (omega arith)) in
       rw (t 0 (omega arith)) (omega (arith, rest))
-
-  -- a turn of a loop: the octet passes, or it does not, or the limit is reached
-  pub turn : (n m : ℕ) (l : List ℕ) (i : ℕ) → i < length l → n ≡ m + 1 → test (get_or l i 0) ≡ true
-      → leading test n (drop i l) ≡ leading test m (drop (i + 1) l) + 1
-  unfolding leading
-  turn n m l i h e t = rw (e, add-one i, add-one m, add-one (leading test m (drop (suc i) l)), drop-cons l i 0, t)
-
-  pub fails : (n : ℕ) (l : List ℕ) (i : ℕ) → i < length l → test (get_or l i 0) ≡ false → leading test n (drop i l) ≡ 0
-  unfolding leading
-  fails zero l i h t = refl
-  fails (suc n) l i h t = rw (drop-cons l i 0, t)
-
-  pub limit : (n : ℕ) (l : List ℕ) → n ≡ 0 → leading test n l ≡ 0
-  unfolding leading
-  limit n l e = rw e
 
 -- ---- the two counts
 

@@ -1,16 +1,18 @@
--- D of a frame, octet by octet, and the two counts at a place of it.
-use mathlib.Core.Path.{◌≡◌, ap, ◌∙◌}
-use mathlib.Core.Bool.{not}
+-- D of a frame, octet by octet, and the two counts at its head.
+use mathlib.Core.Path.{◌≡◌, ap, sym, ◌∙◌}
 use mathlib.Core.List.{List, [], ◌∷◌}
-use Prim.Native.Nat.{ℕ, ◌+◌, ◌-◌, ◌≤◌, ◌<◌}
+use Prim.Native.Nat.{ℕ, zero, suc, ◌+◌, ◌-◌, ◌≤◌, ◌<◌, min}
 use native.Mathlib.Omega.{arith}
-use borrow.Author.Tests.{eq-eqb, ne_eqb, ltb-true, ltb-false}
+use Rattle.std.specs.List.{position, position_from}
+use Rattle.std.specs.Option.{unwrap_or}
+use Rattle.std.proofs.lemmas.Iterator.Adapters.{position_from-zero}
+use borrow.Author.Tests.{ltb-true, ltb-false}
 use lib.Dec.{ltb}
-use lib.ListN.{length, take, drop, get_or, length-append, length-drop, drop_of_length-le, get_or-append, get_or-eq_default}
+use lib.ListN.{length, take, drop, get_or, length-append, length-drop, get_or-append, get_or-eq_default}
 use lib.Seq.{take_all, drop-append-le, get_or-append_seam, get_or-drop}
-use Rattle.cobs.specs.CodeBlocks.{with_phantom, leading_zeros, leading_nonzeros, is_zero, is_nonzero}
+use Rattle.cobs.specs.CodeBlocks.{with_phantom, leading, leading_zeros, leading_nonzeros, is_zero, is_nonzero}
 use Rattle.cobs.proofs.Tests.{decide}
-use Rattle.cobs.proofs.Leading.{EndsInZero, within, turn, fails, nonzeros-inside}
+use Rattle.cobs.proofs.Leading.{EndsInZero, at_most, within, nonzeros-at, nonzeros-end, nonzeros-inside}
 
 -- a rest of a list that ends in zero does so too
 pub ends-drop : (l : List ℕ) → EndsInZero l → (n : ℕ) → EndsInZero (drop n l)
@@ -38,32 +40,40 @@ module _ (f : List ℕ) where
       let all : length (drop k f) ≤ length f - k = omega (arith, length-drop k f) in
       drop-append-le k f (0 ∷ []) h ∙ rw (take_all (length f - k) (drop k f))
 
-  module _ (n i : ℕ) where
-    -- an octet that is not zero counts one; at a zero, or at the phantom, nothing is counted
-    pub nonzero-turn : (m : ℕ) → n ≡ m + 1 → i < length f → (get_or f i 0 ≡ 0 → ⊥)
-        → leading_nonzeros n (drop i (with_phantom f)) ≡ leading_nonzeros m (drop (i + 1) (with_phantom f)) + 1
-    nonzero-turn m e h o =
-        turn is_nonzero n m (with_phantom f) i (omega (arith, long)) e (ap not (ap is_zero (before i h) ∙ ne_eqb (get_or f i 0) 0 o))
-
-    pub nonzero-stop : i < length f → get_or f i 0 ≡ 0 → leading_nonzeros n (drop i (with_phantom f)) ≡ 0
-    nonzero-stop h o = fails is_nonzero n (with_phantom f) i (omega (arith, long)) (ap not (eq-eqb _ 0 (before i h ∙ o)))
-
-    pub nonzero-phantom : i ≡ length f → leading_nonzeros n (drop i (with_phantom f)) ≡ 0
-    nonzero-phantom e = fails is_nonzero n (with_phantom f) i (omega (arith, long)) (ap not (eq-eqb _ 0 (behind i e)))
-
-    -- a zero counts one, and so does the phantom, behind which is nothing; at another octet nothing is counted
-    pub zero_turn : (m : ℕ) → n ≡ m + 1 → i < length f → get_or f i 0 ≡ 0
-        → leading_zeros n (drop i (with_phantom f)) ≡ leading_zeros m (drop (i + 1) (with_phantom f)) + 1
-    zero_turn m e h o = turn is_zero n m (with_phantom f) i (omega (arith, long)) e (eq-eqb _ 0 (before i h ∙ o))
-
-    pub zero-phantom : 0 < n → i ≡ length f → leading_zeros n (drop i (with_phantom f)) ≡ 1
-    zero-phantom h e =
-        let w : leading_zeros (n - 1) (drop (i + 1) (with_phantom f)) ≤ length (drop (i + 1) (with_phantom f)) = within is_zero (n - 1) (drop (i + 1) (with_phantom f)) in
-        let end : length (drop (i + 1) (with_phantom f)) ≡ 0 = ap length (drop_of_length-le (with_phantom f) {i = i + 1} (omega (arith, long))) in
-        omega (arith, turn is_zero n (n - 1) (with_phantom f) i (omega (arith, long)) (omega arith) (eq-eqb _ 0 (behind i e)))
-
-    pub zero-stop : i < length f → (get_or f i 0 ≡ 0 → ⊥) → leading_zeros n (drop i (with_phantom f)) ≡ 0
-    zero-stop h o = fails is_zero n (with_phantom f) i (omega (arith, long)) (ap is_zero (before i h) ∙ ne_eqb (get_or f i 0) 0 o)
-
   pub nonzeros-within : (n : ℕ) → leading_nonzeros n (with_phantom f) ≤ length f
   nonzeros-within n = omega (arith, long, nonzeros-inside n (with_phantom f) (omega (arith, long)) ends)
+
+  -- At least k octets are counted: one more, if the next is not zero; no more, if it is.
+  module _ (n k : ℕ) (counted : k ≤ leading_nonzeros n (with_phantom f)) where
+    pub nonzeros-more : k < n → k < length f → (get_or f k 0 ≡ 0 → ⊥) → k + 1 ≤ leading_nonzeros n (with_phantom f)
+    nonzeros-more h i o =
+        let all = leading_nonzeros n (with_phantom f) in
+        decide (ltb k all) (λ t. omega (arith, ltb-true k all t))
+        (λ t.
+        let e : all ≡ k = omega (arith, ltb-false k all t) in
+        absurd (o (sym (before k i) ∙ rw (sym e) (nonzeros-end n (with_phantom f) (omega arith) (omega (arith, long))))))
+
+    pub nonzeros-stop : k < length f → get_or f k 0 ≡ 0 → k ≡ leading_nonzeros n (with_phantom f)
+    nonzeros-stop i o =
+        let all = leading_nonzeros n (with_phantom f) in
+        decide (ltb k all) (λ t. absurd (nonzeros-at n (with_phantom f) k (ltb-true k all t) (before k i ∙ o))) (λ t. omega (arith, ltb-false k all t))
+
+-- ---- the zeros at the head of D, by the octets of the frame
+
+-- Where there are only zeros, the phantom is one more.
+zeros-from : (f : List ℕ) (n i all : ℕ) → all ≡ i + min (length f + 1) n
+    → unwrap_or (position_from is_nonzero i (take n f)) all ≡ i + leading_zeros n (with_phantom f)
+unfolding leading
+zeros-from [] zero i all e = omega arith
+zeros-from [] (suc n) i all e = omega (arith, within is_zero n [])
+zeros-from (x ∷ f) zero i all e = omega arith
+zeros-from (x ∷ f) (suc n) i all e =
+    decide (is_zero x) (λ t. rw t (omega (arith, zeros-from f n (i + 1) all (omega arith)))) (λ t. rw t (omega arith))
+
+pub zeros-of : (f : List ℕ) (n : ℕ) → leading_zeros n (with_phantom f) ≡ unwrap_or (position is_nonzero (take n f)) (min (length f + 1) n)
+zeros-of f n = rw (position_from-zero is_nonzero (take n f)) (omega (arith, zeros-from f n 0 (min (length f + 1) n) (omega arith)))
+
+-- what `choose` and `count_nonzeros` go by
+pub ruleset choosing = (rest_of, nonzeros-within, at_most)
+
+pub ruleset counting = (nonzeros-within, nonzeros-more, nonzeros-stop, at_most)

@@ -1,19 +1,20 @@
 -- Code blocks (docs/READING.md and document 01, "Code blocks"; the COBS draft, 3 to 3.3).
-use Rattle.std.specs.Prelude.{◌≡◌, Bool, not, ◌&&◌, ℕ, zero, suc, ◌+◌, ◌-◌, leb, eqb, length, take, drop, replicate}
+use Rattle.std.specs.Prelude.{◌≡◌, Bool, not, ◌&&◌, ℕ, zero, suc, ◌+◌, ◌-◌, leb, eqb, length, take, drop, replicate, Result, Ok, Err}
 use mathlib.Core.List.{List, [], ◌∷◌, ◌++◌, map, flat_map, Memᴰ}
 use Rattle.std.proofs.Math.Option
 use Rattle.std.proofs.Math.Option.{Option, none, some}
 use Rattle.fcs.specs.CheckSequence.{Check, fcs}
 use Rattle.std.specs.Prelude.{if◌then◌else◌}
-pub use Rattle.cobs.specs.declared.Meaning.{Meaning}
-pub use Rattle.cobs.specs.declared.Meaning.TheVariants.{InTable, NotAgreed, NoCode}
+pub use Rattle.cobs.specs.declared.Row.{Row}
+pub use Rattle.cobs.specs.declared.CodeError.{CodeError}
+pub use Rattle.cobs.specs.declared.CodeError.TheVariants.{NotAgreed, NoCode}
 pub use Rattle.cobs.specs.declared.Choice.{Choice}
 
 -- What `look_up` and `choose` answer (declared in src/lib.rt), and what document 01 calls the cases and parts:
---   Meaning of a code   InTable { nonzeros, zeros }   a row of the code table: its data octets, and the zeros after
---                       NotAgreed                     D3-FE without ZXE, which a receiver refuses with 6
---                       NoCode                        D1, D2 and FF, which a receiver refuses with 7; and zero
---   Choice of a block   code, nonzeros, zeros         its code, its data octets, and the zeros after
+--   Meaning of a code   Ok { nonzeros, zeros }   a row of the code table: its data octets, and the zeros after
+--                       Err NotAgreed            D3-FE without ZXE, which a receiver refuses with 6
+--                       Err NoCode               D1, D2 and FF, which a receiver refuses with 7; and zero
+--   Choice of a block   code, nonzeros, zeros    its code, its data octets, and the zeros after
 
 -- ---- the frame
 
@@ -31,18 +32,26 @@ with_phantom f = f ++ (0 ∷ [])
 unfoldable pub in_range : ℕ → ℕ → ℕ → Bool
 in_range first last c = leb first c && leb c last
 
+-- a row of the table, or why a code is in none
+abbrev pub Meaning : Type 0
+Meaning = Result Row CodeError
+
+-- so many data octets, and so many zeros after them
+abbrev pub in_row : ℕ → ℕ → Meaning
+in_row n z = Ok (record { nonzeros = n; zeros = z })
+
 -- The code table: how many data octets follow a code, and how many zeros stand after them. Zero, D1, D2 and FF are in no row.
 unfoldable pub code_table : ℕ → Meaning
 code_table c =
-    if in_range 0x01 0xCF c then InTable (c - 1) 1
-    else if eqb c 0xD0 then InTable 207 0
-    else if in_range 0xD3 0xDF c then InTable 0 (c - 0xD0)
-    else if in_range 0xE0 0xFE c then InTable (c - 0xE0) 2
-    else NoCode
+    if in_range 0x01 0xCF c then in_row (c - 1) 1
+    else if eqb c 0xD0 then in_row 207 0
+    else if in_range 0xD3 0xDF c then in_row 0 (c - 0xD0)
+    else if in_range 0xE0 0xFE c then in_row (c - 0xE0) 2
+    else Err NoCode
 
 -- the table under a setting: only ZXE allows D3-FE
 unfoldable pub meaning : Bool → ℕ → Meaning
-meaning zxe c = if in_range 0xD3 0xFE c && not zxe then NotAgreed else code_table c
+meaning zxe c = if in_range 0xD3 0xFE c && not zxe then Err NotAgreed else code_table c
 
 -- ---- the exchange of 7E and 00
 
@@ -95,9 +104,8 @@ pub record Block : Type 0 where
   pub data_octets : List ℕ
 
 abbrev pub zeros_in : Meaning → ℕ
-zeros_in (InTable n z) = z
-zeros_in NotAgreed = 0
-zeros_in NoCode = 0
+zeros_in (Ok r) = r.zeros
+zeros_in (Err _) = 0
 
 -- the zeros after its data octets
 abbrev pub zeros_after : Block → ℕ
@@ -105,7 +113,7 @@ zeros_after b = zeros_in (code_table b.code)
 
 -- A block that the table allows: its code is agreed, as many data octets follow as it says, and none of them is zero.
 pub record Allowed (zxe : Bool) (b : Block) : Type 0 where
-  pub row : meaning zxe b.code ≡ InTable (length b.data_octets) (zeros_after b)
+  pub row : meaning zxe b.code ≡ in_row (length b.data_octets) (zeros_after b)
   pub nonzero : Memᴰ 0 b.data_octets → ⊥
 
 -- a list of such blocks
@@ -150,10 +158,9 @@ uninterrupted zxe f = line_octets (blocks zxe (with_phantom f))
 
 -- The block that begins with the code c, of the octets l behind it: `behind k` is what is read after k of them.
 abbrev pub read_block : ℕ → List ℕ → Meaning → (ℕ → Option (List Block)) → Option (List Block)
-read_block c l (InTable k z) behind =
-    if leb k (length l) then Option.map (λ bs. record { code = c; data_octets = take k l } ∷ bs) (behind k) else none
-read_block c l NotAgreed behind = none
-read_block c l NoCode behind = none
+read_block c l (Ok r) behind =
+    if leb r.nonzeros (length l) then Option.map (λ bs. record { code = c; data_octets = take r.nonzeros l } ∷ bs) (behind r.nonzeros) else none
+read_block c l (Err _) behind = none
 
 -- A code, as many data octets as it says, and so on to the end of the octets, which are turned back already; none where there is no such
 -- code, or it is not agreed, or a block breaks off. There are fewer than n blocks.

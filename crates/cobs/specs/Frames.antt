@@ -1,9 +1,9 @@
 -- What is claimed of the blocks of a whole frame, of any blocks, and of the table (document 01, "Code blocks"); proved in proofs/Frame.antt,
 -- Blocks.antt and Table.antt.
-use Rattle.std.specs.Prelude.{Bool, true, false, ◌≡◌, ℕ, ◌+◌, ◌-◌, ◌/◌, ◌≤◌, length}
+use Rattle.std.specs.Prelude.{Bool, true, false, ◌≡◌, ℕ, ◌+◌, ◌-◌, ◌/◌, ◌≤◌, length, Err}
 use mathlib.Core.List.{List, Memᴰ}
 use Rattle.std.proofs.Math.Option.{some, map}
-use Rattle.cobs.specs.CodeBlocks.{InTable, NotAgreed, NoCode, meaning, with_phantom, flag, Block, AllAllowed, decoded_octets, line_octets, blocks, uninterrupted, read_blocks}
+use Rattle.cobs.specs.CodeBlocks.{NotAgreed, NoCode, in_row, meaning, with_phantom, flag, Block, AllAllowed, decoded_octets, line_octets, blocks, uninterrupted, read_blocks}
 
 -- The blocks of the frame f, and what is sent of it.
 --   allowed: the table allows the blocks under that setting
@@ -27,11 +27,11 @@ OneReading = (zxe : Bool) (bs cs : List Block) → AllAllowed zxe bs → AllAllo
 
 -- The code table, row by row, with ZXE or without; D3-FE want it, and zero, D1, D2 and FF are no codes.
 pub record TheTable : Type 0 where
-  pub plain : (zxe : Bool) (c : ℕ) → 0x01 ≤ c → c ≤ 0xCF → meaning zxe c ≡ InTable (c - 1) 1
-  pub full : (zxe : Bool) → meaning zxe 0xD0 ≡ InTable 207 0
-  pub runs : (c : ℕ) → 0xD3 ≤ c → c ≤ 0xDF → meaning true c ≡ InTable 0 (c - 0xD0)
-  pub pairs : (c : ℕ) → 0xE0 ≤ c → c ≤ 0xFE → meaning true c ≡ InTable (c - 0xE0) 2
-  pub not_agreed : (c : ℕ) → 0xD3 ≤ c → c ≤ 0xFE → meaning false c ≡ NotAgreed
-  pub zero : (zxe : Bool) → meaning zxe 0x00 ≡ NoCode
-  pub reserved : (zxe : Bool) (c : ℕ) → 0xD1 ≤ c → c ≤ 0xD2 → meaning zxe c ≡ NoCode
-  pub above : (zxe : Bool) (c : ℕ) → 0xFF ≤ c → meaning zxe c ≡ NoCode
+  pub plain : (zxe : Bool) (c : ℕ) → 0x01 ≤ c → c ≤ 0xCF → meaning zxe c ≡ in_row (c - 1) 1
+  pub full : (zxe : Bool) → meaning zxe 0xD0 ≡ in_row 207 0
+  pub runs : (c : ℕ) → 0xD3 ≤ c → c ≤ 0xDF → meaning true c ≡ in_row 0 (c - 0xD0)
+  pub pairs : (c : ℕ) → 0xE0 ≤ c → c ≤ 0xFE → meaning true c ≡ in_row (c - 0xE0) 2
+  pub not_agreed : (c : ℕ) → 0xD3 ≤ c → c ≤ 0xFE → meaning false c ≡ Err NotAgreed
+  pub zero : (zxe : Bool) → meaning zxe 0x00 ≡ Err NoCode
+  pub reserved : (zxe : Bool) (c : ℕ) → 0xD1 ≤ c → c ≤ 0xD2 → meaning zxe c ≡ Err NoCode
+  pub above : (zxe : Bool) (c : ℕ) → 0xFF ≤ c → meaning zxe c ≡ Err NoCode

@@ -1,9 +1,43 @@
 // The check of 16 bits: its table, and words by its polynomial.
-ghost use Rattle.std.specs.Prelude.{◌≡◌, ◌≤◌, ◌<◌, length};
-ghost use Rattle.fcs.specs.CheckSequence.{check16, IsTable, bit_steps, octet_step, feed};
+ghost use Rattle.std.specs.Prelude.{◌≡◌, refl, ◌≤◌, ◌<◌, length};
+ghost use Rattle.fcs.specs.CheckSequence.{check16, ones, IsTable, bit_steps, octet_step, feed};
 
+use crate::registers::Register;
 use crate::tables::TABLE16;
 use crate::words::{short_word, word_at};
+
+impl Register for u16 {
+    type Octets = [u8; 2];
+
+    ghost check = { check16 };
+
+    ghost value = { λ r. r };
+
+    ghost START = { ones check16 };
+
+    ghost GOOD_END = { check16.good_end };
+
+    const START: u16 = 0xffff;
+
+    const GOOD_END: u16 = 0xf0b8;
+
+    fn feed(self, octets: &[u8]) -> u16 {
+        if octets.len() < 32 {
+            return by_words(self, octets);
+        }
+        by_folding(self, octets)
+    }
+
+    fn to_fcs(self) -> [u8; 2] {
+        (!self).to_le_bytes()
+    }
+
+    ghost starts = { refl };
+
+    ghost ends = { refl };
+
+    ghost same = { λ a b. refl };
+}
 
 // ---- an octet at a step
 
@@ -43,32 +77,30 @@ fn by_rest(start: u16, octets: &[u8]) -> u16
     requires { length octets.now < 8 }
     ensures { result ≡ feed check16 start octets.now }
 {
-    let n = octets.len();
-    if n == 0 {
-        return start;
+    match octets {
+        [] => start,
+        [octet] => octet_step(start, *octet),
+        _ => word_step((start as u64 ^ short_word(octets)) << (64 - 8 * octets.len())) as u16,
     }
-    if n == 1 {
-        return octet_step(start, octets[0]);
-    }
-    word_step((start as u64 ^ short_word(octets)) << (64 - 8 * n)) as u16
 }
 
-// The same of any octets, a word at a step.
-pub(crate) fn by_words(start: u16, octets: &[u8]) -> u16
+// The same of any octets, a word at a step. `word_at` reads it, since its clause is one on the octets; the compiler makes one load of it.
+fn by_words(start: u16, octets: &[u8]) -> u16
     ensures { result ≡ feed check16 start octets.now }
 {
     let mut r = start as u64;
-    let mut i = 0;
-    while 7 < octets.len() - i {
-        r = word_step(r ^ word_at(octets, i));
-        i += 8;
+    let mut rest = octets;
+    while let Some((word, behind)) = rest.split_first_chunk::<8>() {
+        r = word_step(r ^ word_at(word, 0));
+        rest = behind;
     }
-    by_rest(r as u16, &octets[i..])
+    by_rest(r as u16, rest)
 }
 
 // The same of four words or more. Word steps wait for each other, so each word but the last four is folded into the next four instead: it
-// counts as much as itself 64 bits later, 176 (48 bits into a word, so in two words) and 256, together.
-pub(crate) fn by_folding(start: u16, octets: &[u8]) -> u16
+// counts as much as itself 64 bits later, 176 (48 bits into a word, so in two words) and 256, together. By an index, since parting the words takes
+// more instructions: `split_first_chunk` 1,967 for 1,402 octets and not 1,800, `as_chunks` 187 for 32 and not 179.
+fn by_folding(start: u16, octets: &[u8]) -> u16
     requires { 32 ≤ length octets.now }
     ensures { result ≡ feed check16 start octets.now }
 {

@@ -1,9 +1,43 @@
 // The check of 32 bits: its table, and words by its polynomial.
-ghost use Rattle.std.specs.Prelude.{◌≡◌, ◌≤◌, ◌<◌, length};
-ghost use Rattle.fcs.specs.CheckSequence.{check32, IsTable, bit_steps, octet_step, feed};
+ghost use Rattle.std.specs.Prelude.{◌≡◌, refl, ◌≤◌, ◌<◌, length};
+ghost use Rattle.fcs.specs.CheckSequence.{check32, ones, IsTable, bit_steps, octet_step, feed};
 
+use crate::registers::Register;
 use crate::tables::TABLE32;
 use crate::words::{short_word, word_at};
+
+impl Register for u32 {
+    type Octets = [u8; 4];
+
+    ghost check = { check32 };
+
+    ghost value = { λ r. r };
+
+    ghost START = { ones check32 };
+
+    ghost GOOD_END = { check32.good_end };
+
+    const START: u32 = 0xffff_ffff;
+
+    const GOOD_END: u32 = 0xdebb_20e3;
+
+    fn feed(self, octets: &[u8]) -> u32 {
+        if octets.len() < 16 {
+            return by_word(self, octets);
+        }
+        by_folding(self, octets)
+    }
+
+    fn to_fcs(self) -> [u8; 4] {
+        (!self).to_le_bytes()
+    }
+
+    ghost starts = { refl };
+
+    ghost ends = { refl };
+
+    ghost same = { λ a b. refl };
+}
 
 // ---- an octet at a step
 
@@ -73,19 +107,19 @@ fn by_rest(start: u32, octets: &[u8]) -> u32
     requires { length octets.now < 8 }
     ensures { result ≡ feed check32 start octets.now }
 {
-    let n = octets.len();
-    if n == 0 {
-        return start;
+    match octets {
+        [] => start,
+        [octet] => octet_step(start, *octet),
+        _ => {
+            let bits = 8 * octets.len();
+            let t = start as u64 ^ short_word(octets);
+            (word_step(t << (64 - bits)) as u64 ^ (t >> bits)) as u32
+        }
     }
-    if n == 1 {
-        return octet_step(start, octets[0]);
-    }
-    let t = start as u64 ^ short_word(octets);
-    (word_step(t << (64 - 8 * n)) as u64 ^ (t >> (8 * n))) as u32
 }
 
 // The same of one word at most.
-pub(crate) fn by_word(start: u32, octets: &[u8]) -> u32
+fn by_word(start: u32, octets: &[u8]) -> u32
     requires { length octets.now < 16 }
     ensures { result ≡ feed check32 start octets.now }
 {
@@ -97,8 +131,9 @@ pub(crate) fn by_word(start: u32, octets: &[u8]) -> u32
 }
 
 // The same of two words or more. A word step is dear, and steps wait for each other, so each word but the last two is folded into the next
-// two instead: it counts as much as itself 64 bits later, 80, 87, 105, 111, 112, 119 and 120, together.
-pub(crate) fn by_folding(start: u32, octets: &[u8]) -> u32
+// two instead: it counts as much as itself 64 bits later, 80, 87, 105, 111, 112, 119 and 120, together. By an index, as for 16 bits:
+// `split_first_chunk` takes 178 instructions for 2 octets and not 176, `as_chunks` 233 for 16 and not 230 (but 8,329 for 1,402 and not 8,498).
+fn by_folding(start: u32, octets: &[u8]) -> u32
     requires { 16 ≤ length octets.now }
     ensures { result ≡ feed check32 start octets.now }
 {

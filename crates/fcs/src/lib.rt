@@ -4,85 +4,51 @@
 ghost use Rattle.std.specs.Prelude.{◌≡◌};
 ghost use Rattle.fcs.specs.CheckSequence.{Check, check16, check32, feed, register, fcs, good, OctetIsEightBits, Sound, FramesEndGood, MarkedFcs, BurstsChange, BurstsOneLonger};
 
+pub use registers::Register;
+
 mod check16;
 mod check32;
+mod registers;
 mod tables;
 mod words;
 
-// ---- 16 bits
+// The register over a slice, from its start.
+pub fn register<R: Register>(octets: &[u8]) -> R
+    ensures { R.value result ≡ register R.check octets.now }
+{
+    R::START.feed(octets)
+}
 
-// A register, at start, fed the octets of a slice: RFC 1662's function, under its name, for C too.
+// The FCS of a packet.
+pub fn fcs<R: Register>(packet: &[u8]) -> R::Octets
+    ensures { R.Octets.items result ≡ fcs R.check packet.now }
+{
+    register::<R>(packet).to_fcs()
+}
+
+// Whether a packet and its FCS end at the good register.
+pub fn good<R: Register>(frame: &[u8]) -> bool
+    ensures { result ≡ good R.check frame.now }
+{
+    register::<R>(frame) == R::GOOD_END
+}
+
+// ---- for C, under the names of RFC 1662's functions
+
+// A register, at start, fed the octets of a slice, with 16 bits
 #[unsafe(no_mangle)]
 pub extern "C" fn pppfcs16(start: u16, octets: &[u8]) -> u16
     ensures { result ≡ feed check16 start octets.now }
 {
-    if octets.len() < 32 {
-        return check16::by_words(start, octets);
-    }
-    check16::by_folding(start, octets)
+    start.feed(octets)
 }
 
-// The register over a slice, from its start.
-pub fn register16(octets: &[u8]) -> u16
-    ensures { result ≡ register check16 octets.now }
-{
-    pppfcs16(0xffff, octets)
-}
-
-// The FCS of a packet.
-pub fn fcs16(packet: &[u8]) -> [u8; 2]
-    ensures { result ≡ fcs check16 packet.now }
-{
-    let complement = !register16(packet);
-    let low = (complement % 256) as u8;
-    let high = (complement / 256 % 256) as u8;
-    [low, high]
-}
-
-// Whether a packet and its FCS end at the good register.
-pub fn good16(frame: &[u8]) -> bool
-    ensures { result ≡ good check16 frame.now }
-{
-    register16(frame) == 0xf0b8
-}
-
-// ---- 32 bits
-
-// A register, at start, fed the octets of a slice, as pppfcs16.
+// and with 32.
 #[unsafe(no_mangle)]
 pub extern "C" fn pppfcs32(start: u32, octets: &[u8]) -> u32
     ensures { result ≡ feed check32 start octets.now }
 {
-    if octets.len() < 16 {
-        return check32::by_word(start, octets);
-    }
-    check32::by_folding(start, octets)
-}
-
-// The register over a slice, from its start.
-pub fn register32(octets: &[u8]) -> u32
-    ensures { result ≡ register check32 octets.now }
-{
-    pppfcs32(0xffff_ffff, octets)
-}
-
-// The FCS of a packet.
-pub fn fcs32(packet: &[u8]) -> [u8; 4]
-    ensures { result ≡ fcs check32 packet.now }
-{
-    let complement = !register32(packet);
-    let first = (complement % 256) as u8;
-    let second = (complement / 256 % 256) as u8;
-    let third = (complement / 256 / 256 % 256) as u8;
-    let fourth = (complement / 256 / 256 / 256 % 256) as u8;
-    [first, second, third, fourth]
-}
-
-// Whether a packet and its FCS end at the good register.
-pub fn good32(frame: &[u8]) -> bool
-    ensures { result ≡ good check32 frame.now }
-{
-    register32(frame) == 0xdebb_20e3
+    start.feed(octets)
 }
 
 // What is claimed of this crate: each theorem that docs/DEMANDS.md names.

@@ -2,7 +2,7 @@
 // input. What is read and written no contract can say. The contracts here say the rest: that there is a file, how long its name is, what is kept of the output.
 #![tactic(auto)]
 
-ghost use Rattle.std.specs.Prelude.{true, false, ◌≡◌, ◌≤◌, ◌↔◌, length, IsTrue, if◌then◌else◌};
+ghost use Rattle.std.specs.Prelude.{true, false, Err, ◌≡◌, ◌≢◌, ◌≤◌, ◌↔◌, length, IsTrue, IsOk, IsSome, IsErr, IfSome, OnErr};
 ghost use Rattle.std.specs.Io.{ReadsAtMost};
 ghost use Rattle.std.specs.IoError.{error_kind};
 ghost use Rattle.std.specs.Process.{exit_status};
@@ -29,29 +29,48 @@ impl System for HostRuntime {
     }
 }
 
-// Where the octets of a file come from. Nowhere: it could not be opened.
+// A program: the system under it, and its name, which each message begins with.
+#[derive(Drop)]
+pub struct Program<'a, R> {
+    pub rt: &'a R,
+    pub name: &'a [u8],
+}
+
+// Where the octets of a file come from.
 #[derive(Drop)]
 pub enum Source<F, I> {
-    Nowhere,
     Standard(I),
     Opened(F),
 }
 
-// A file to read: its source; and how many octets, from the start of the area that was lent for it, are its name. Standard input has a name of none.
+// A file to read, and its name. Standard input has a name of no octets, and stays open: it may be named twice, and has nothing left the second time.
 #[derive(Drop)]
-pub struct File<F, I> {
+pub struct File<'n, F, I> {
     pub source: Source<F, I>,
-    pub named: usize,
+    pub name: &'n [u8],
 }
 
-// What a program prints, between two files. headings: each file's part is headed by its name; begun: there is a part already; on: all was written;
-// deserted: not all was, since nobody reads on.
+// A capture that is read, and its octets that were read last.
+#[derive(Drop)]
+pub struct Capture<'n, F, I> {
+    pub file: File<'n, F, I>,
+    buffer: [u8; 65536],
+    got: usize,
+    ghost within: { got ≤ 65536 },
+}
+
+// What a program prints, between two files. headings: each file's part is headed by its name; begun: there is a part already.
 #[derive(Clone, Copy)]
 pub struct Output {
     pub headings: bool,
     pub begun: bool,
-    pub on: bool,
-    pub deserted: bool,
+}
+
+// Why a program prints nothing more. Cut: standard output has failed, or a fault was found, and that was complained of; Deserted: nobody reads on.
+#[derive(Clone, Copy)]
+pub enum Stopped {
+    Cut,
+    Deserted,
 }
 
 // The system's numbers for what is found wrong before it is asked.
@@ -63,80 +82,124 @@ const NAME_NO_TEXT: i32 = 84;
 
 // ---- the arguments
 
-// The files are the arguments 1, 2 and so on, up to this number, which is none of them.
-pub fn end<R: System>(rt: &R) -> usize
-    ensures { 2 ≤ result }
-{
-    let words = argument_count(rt);
-    if words < 2 { 2 } else { words }
-}
+impl<'a, R: System> Program<'a, R> {
+    // The files are the arguments 1, 2 and so on, up to this number, which is none of them.
+    pub fn end(&self) -> usize
+        ensures { 2 ≤ result }
+    {
+        let words = (0..usize::MAX)
+            .take_while(|&number| self.is_argument(number))
+            .count();
+        words.max(2)
+    }
 
-fn argument_count<R: System>(rt: &R) -> usize {
-    let mut words = 0usize;
-    for number in 0..usize::MAX {
-        if !is_argument(rt, number) {
-            break;
+    // An argument that has no room is there.
+    fn is_argument(&self, number: usize) -> bool {
+        !matches!(self.rt.arg(number, &mut []), Err(FillError::NotPresent))
+    }
+
+    fn standard_input(&self) -> File<'static, R::File, R::Reader>
+        ensures { length result.name.now ≡ 0 }
+    {
+        File {
+            source: Source::Standard(self.rt.reader()),
+            name: &[],
         }
-        words = number + 1;
     }
-    words
-}
 
-// An argument that has no room is there.
-fn is_argument<R: System>(rt: &R, number: usize) -> bool {
-    match rt.arg(number, &mut []) {
-        Ok(_) | Err(FillError::TooLong) => true,
-        Err(FillError::NotPresent) => false,
-    }
-}
-
-fn standard_input<R: System>(rt: &R) -> File<R::File, R::Reader>
-    ensures { result.named ≤ 0 }
-{
-    File {
-        source: Source::Standard(rt.reader()),
-        named: 0,
-    }
-}
-
-// Opens the file of an argument, and puts its name into the area. One that cannot be opened is complained of.
-pub fn open<R: System>(
-    rt: &R,
-    program: &[u8],
-    number: usize,
-    name: &mut [u8],
-) -> File<R::File, R::Reader>
-    ensures { result.named ≤ length name.new }
-{
-    if !is_argument(rt, 1) {
-        return standard_input(rt);
-    }
-    let n = match rt.arg(number, name) {
-        Ok(n) => n,
-        Err(FillError::TooLong) => return too_long(rt, program, name, NAME_TOO_LONG),
-        Err(FillError::NotPresent) => return too_long(rt, program, name, NO_SUCH_ARGUMENT),
-    };
-    if is_dash(&name[..n]) {
-        return standard_input(rt);
-    }
-    let source = find(rt, program, &name[..n]);
-    File { source, named: n }
-}
-
-fn is_dash(name: &[u8]) -> bool {
-    if name.len() != 1 {
-        return false;
-    }
-    name[0] == b'-'
-}
-
-fn find<R: System>(rt: &R, program: &[u8], name: &[u8]) -> Source<R::File, R::Reader> {
-    match open_by_name(rt, name) {
-        Ok(file) => Source::Opened(file),
-        Err(error) => {
-            unopened(rt, program, name, error);
-            Source::Nowhere
+    // Opens the file of an argument, whose name is put into the area. One that cannot be opened is complained of.
+    pub fn open<'n>(
+        &self,
+        number: usize,
+        name: &'n mut [u8],
+    ) -> Option<File<'n, R::File, R::Reader>>
+        ensures { IfSome result (λ file. length file.name.now ≤ length name.old) }
+    {
+        if !self.is_argument(1) {
+            return Some(self.standard_input());
         }
+        let refusal = match self.rt.arg(number, name) {
+            Ok(n) => return self.find(&name[..n]),
+            Err(FillError::TooLong) => NAME_TOO_LONG,
+            Err(FillError::NotPresent) => NO_SUCH_ARGUMENT,
+        };
+        self.unnamed(name, Error::from_raw_os_error(refusal));
+        None
+    }
+
+    // The file of a name.
+    fn find<'n>(&self, name: &'n [u8]) -> Option<File<'n, R::File, R::Reader>>
+        ensures { IfSome result (λ file. length file.name.now ≤ length name.now) }
+    {
+        if matches!(name, b"-") {
+            return Some(self.standard_input());
+        }
+        let file = self.opened(name, open_by_name(self.rt, name))?;
+        Some(File {
+            source: Source::Opened(file),
+            name,
+        })
+    }
+
+    // A file, if it could be opened, or else that is complained of.
+    fn opened(&self, name: &[u8], file: io::Result<R::File>) -> Option<R::File>
+        ensures { IsSome result ↔ IsOk file }
+    {
+        match file {
+            Ok(file) => Some(file),
+            Err(error) => {
+                self.unopened(name, error);
+                None
+            }
+        }
+    }
+
+    fn unopened(&self, name: &[u8], error: Error) {
+        let shown = if name.is_empty() { b"''" } else { name };
+        self.fail(shown, b"cannot be read", error)
+    }
+
+    // An argument longer than any file's name: it is known by its first octets.
+    fn unnamed(&self, name: &[u8], error: Error) {
+        self.say(self.name);
+        self.say(b": ");
+        if 32 <= name.len() {
+            self.say(&name[..32]);
+        }
+        self.give_reason(b"..: cannot be read", error);
+    }
+
+    // ---- messages, on standard error
+
+    pub fn say(&self, words: &[u8]) {
+        let _ = self.rt.errors().write_all(words);
+    }
+
+    // How a message about a file begins: PROGRAM: NAME:
+    pub fn complain(&self, name: &[u8]) {
+        self.say(self.name);
+        self.say(b": ");
+        let _ = write_name(&self.rt.errors(), name);
+        self.say(b": ");
+    }
+
+    // A message about a file, with the system's reason for what has just failed.
+    pub fn fail(&self, name: &[u8], what: &[u8], error: Error) {
+        self.complain(name);
+        self.give_reason(what, error);
+    }
+
+    // How a message ends: what failed, and the system's reason.
+    pub fn give_reason(&self, what: &[u8], error: Error) {
+        let mut reason = Reason {
+            octets: [0; 128],
+            length: 0,
+        };
+        let _ = write!(reason, "{error}");
+        self.say(what);
+        self.say(b": ");
+        self.say(reason.words());
+        self.say(b"\n");
     }
 }
 
@@ -148,87 +211,39 @@ fn open_by_name<R: System>(rt: &R, name: &[u8]) -> io::Result<R::File> {
     }
 }
 
-// The file could be opened.
-pub fn is_open<F, I>(file: &File<F, I>) -> bool
-    ensures nowhere { file.now.source ≡ Source.Nowhere → result ≡ false }
-    ensures standard { (input : I) → file.now.source ≡ Source.Standard input → result ≡ true }
-    ensures opened { (opened : F) → file.now.source ≡ Source.Opened opened → result ≡ true }
-{
-    match file.source {
-        Source::Nowhere => false,
-        Source::Standard(_) | Source::Opened(_) => true,
-    }
-}
-
-// The next octets of a file, as many as one call of the system gives; none at its end.
-pub fn read<F: Read, I: Read>(file: &mut File<F, I>, area: &mut [u8]) -> io::Result<usize>
-    ensures { ReadsAtMost result area.new }
-{
-    match &mut file.source {
-        Source::Nowhere => Ok(0),
-        Source::Standard(input) => input.read(area),
-        Source::Opened(opened) => opened.read(area),
-    }
-}
-
-// Standard input stays open: it may be named twice, and has nothing left the second time.
-pub fn close<F: Drop, I: Drop>(_file: File<F, I>) {}
-
-// ---- messages, on standard error
-
-fn say<R: System>(rt: &R, words: &[u8]) {
-    let _ = rt.errors().write_all(words);
-}
-
 fn write_name<P: Print>(to: &P, name: &[u8]) -> io::Result<()> {
-    if name.len() == 0 {
-        return to.write_all(b"standard input");
+    to.write_all(if name.is_empty() {
+        b"standard input"
+    } else {
+        name
+    })
+}
+
+impl<F: Read, I: Read> File<'_, F, I> {
+    // The next octets of a file, as many as one call of the system gives; none at its end.
+    pub fn read(&mut self, area: &mut [u8]) -> io::Result<usize>
+        ensures { ReadsAtMost result area.new }
+    {
+        match &mut self.source {
+            Source::Standard(input) => input.read(area),
+            Source::Opened(opened) => opened.read(area),
+        }
     }
-    to.write_all(name)
 }
 
-// How a message about a file begins: PROGRAM: NAME:
-pub fn complain<R: System>(rt: &R, program: &[u8], name: &[u8]) {
-    say(rt, program);
-    say(rt, b": ");
-    let _ = write_name(&rt.errors(), name);
-    say(rt, b": ");
-}
-
-// A message about a file, with the system's reason for what has just failed.
-pub fn fail<R: System>(rt: &R, program: &[u8], name: &[u8], what: &[u8], error: Error) {
-    complain(rt, program, name);
-    give_reason(rt, what, error);
-}
-
-// How a message ends: what failed, and the system's reason.
-pub fn give_reason<R: System>(rt: &R, what: &[u8], error: Error) {
-    let mut reason = Reason {
-        octets: [0; 128],
-        length: 0,
-    };
-    let _ = write!(reason, "{error}");
-    say(rt, what);
-    say(rt, b": ");
-    say(rt, reason.words());
-    say(rt, b"\n");
-}
-
-// An error as the library prints it: the system's words, and behind them its number.
+// An error as the library prints it: the system's words, and behind them its number. What has no room is left out: there is no heap for a longer one.
 #[derive(Drop)]
 struct Reason {
     octets: [u8; 128],
     length: usize,
+    ghost within: { length ≤ 128 },
 }
 
 impl Write for Reason {
     fn write_str(&mut self, words: &str) -> fmt::Result {
-        for octet in words.as_bytes() {
-            if self.length < 128 {
-                self.octets[self.length] = *octet;
-                self.length += 1;
-            }
-        }
+        let n = words.len().min(128 - self.length);
+        self.octets[self.length..self.length + n].copy_from_slice(&words.as_bytes()[..n]);
+        self.length += n;
         Ok(())
     }
 }
@@ -238,53 +253,78 @@ const NUMBER: &[u8] = b" (os error ";
 impl Reason {
     // The words without the number.
     fn words(&self) -> &[u8] {
-        if self.length > 128 {
-            return &[];
-        }
         let all = &self.octets[..self.length];
-        for at in 0..all.len() {
-            if all[at..].starts_with(NUMBER) {
-                return &all[..at];
+        match (0..all.len()).find(|&at| all[at..].starts_with(NUMBER)) {
+            Some(end) => &all[..end],
+            None => all,
+        }
+    }
+}
+
+// ---- captures
+
+impl<'a, R: System> Program<'a, R> {
+    // Each file that the program is called with is a capture: it is begun, and handed on. The first of them that stops the program ends it; nothing else does.
+    pub fn each_capture<
+        E: FnMut(&mut Capture<R::File, R::Reader>, &mut Output) -> Result<(), Stopped>,
+    >(&self, mut each: E) -> Result<(), Stopped>
+        requires { E.IsAlwaysCallable each }
+        ensures { OnErr result ((before : E) × (capture : _) × (output : _) × (capture' : _) × (output' : _) × (after : E) × E.step before capture output result capture' output' after) }
+    {
+        let end = self.end();
+        let mut output = Output::new(end);
+        for number in 1..end {
+            let mut name = [0; 4096];
+            if let Some(file) = self.open(number, &mut name)
+                && let Some(mut capture) = self.begin(file)
+            {
+                each(&mut capture, &mut output)?;
             }
         }
-        all
+        Ok(())
     }
-}
 
-// An argument longer than any file's name: it is known by its first octets.
-fn too_long<R: System>(rt: &R, program: &[u8], name: &[u8], number: i32) -> File<R::File, R::Reader>
-    ensures { result.named ≤ 0 }
-{
-    say(rt, program);
-    say(rt, b": ");
-    if 32 <= name.len() {
-        say(rt, &name[0..32]);
+    // Reads the first octets of a capture. One that cannot be read is complained of.
+    fn begin<'n>(
+        &self,
+        mut file: File<'n, R::File, R::Reader>,
+    ) -> Option<Capture<'n, R::File, R::Reader>> {
+        let mut buffer = [0; 65536];
+        match file.read(&mut buffer) {
+            Ok(got) => Some(Capture { file, buffer, got }),
+            Err(error) => {
+                self.fail(file.name, b"cannot be read", error);
+                None
+            }
+        }
     }
-    give_reason(rt, b"..: cannot be read", Error::from_raw_os_error(number));
-    File {
-        source: Source::Nowhere,
-        named: 0,
-    }
-}
 
-fn unopened<R: System>(rt: &R, program: &[u8], name: &[u8], error: Error) {
-    if name.len() == 0 {
-        return fail(rt, program, b"''", b"cannot be read", error);
+    // Hands on a capture's octets, from the first to the last. Where it cannot be read further, that is complained of, and does not stop the program.
+    pub fn read_all<E: FnMut(&[u8]) -> Result<(), Stopped>>(
+        &self,
+        capture: &mut Capture<R::File, R::Reader>,
+        unread: &[u8],
+        mut each: E,
+    ) -> Result<(), Stopped>
+        requires { E.IsAlwaysCallable each }
+        ensures { OnErr result ((before : E) × (octets : _) × (after : E) × E.step before octets result after) }
+    {
+        // Counted, since nothing says how often a file can be read.
+        for _ in 0..u64::MAX {
+            if capture.got == 0 {
+                break;
+            }
+            each(&capture.buffer[..capture.got])?;
+            capture.got = match capture.file.read(&mut capture.buffer) {
+                Ok(got) => got,
+                Err(error) => {
+                    self.fail(capture.file.name, unread, error);
+                    0
+                }
+            };
+        }
+        Ok(())
     }
-    fail(rt, program, name, b"cannot be read", error)
-}
-
-// Standard output has failed. Where nobody reads on, nothing is said of that.
-pub fn unwritten<R: System>(rt: &R, program: &[u8], error: Error) {
-    if is_deserted(error) {
-        return;
-    }
-    say(rt, program);
-    give_reason(
-        rt,
-        b": standard output: cannot be written, and the rest is missing there",
-        error,
-    );
 }
 
 // ---- standard output
@@ -297,51 +337,56 @@ pub fn is_deserted(error: Error) -> bool
 }
 
 // The exit status of a program: 141 where nobody reads on, as if the system's signal for that had ended it, and 0 else.
-pub fn status(deserted: bool) -> ExitCode
-    ensures { exit_status result ≡ (if deserted then 141 else 0) }
+pub fn status(ended: Result<(), Stopped>) -> ExitCode
+    ensures deserted { ended ≡ Err Stopped.Deserted → exit_status result ≡ 141 }
+    ensures otherwise { ended ≢ Err Stopped.Deserted → exit_status result ≡ 0 }
 {
-    let number = if deserted { 141 } else { 0 };
-    ExitCode::from(number)
-}
-
-// Standard output has failed: it is complained of, and nothing more is printed.
-pub fn stop<R: System>(rt: &R, program: &[u8], output: Output, error: Error) -> Output
-    ensures begun { result.begun ≡ output.begun }
-    ensures headings { result.headings ≡ output.headings }
-    ensures on { result.on ≡ false }
-    ensures deserted { IsTrue result.deserted ↔ (error_kind error ≡ ErrorKind.BrokenPipe) }
-{
-    unwritten(rt, program, error);
-    let mut after = output;
-    after.on = false;
-    after.deserted = is_deserted(error);
-    after
-}
-
-pub fn nothing_printed<R: System>(rt: &R) -> Output
-    ensures { (result.begun ≡ false) × (result.on ≡ true) }
-{
-    Output {
-        headings: 2 < end(rt),
-        begun: false,
-        on: true,
-        deserted: false,
+    match ended {
+        Err(Stopped::Deserted) => ExitCode::from(141),
+        _ => ExitCode::SUCCESS,
     }
 }
 
-// Begins a file's part: where there are several files, by ==> NAME <== and, from the second on, an empty line before it, as head and tail do.
-pub fn head<R: System>(rt: &R, program: &[u8], name: &[u8], output: Output) -> Output
-    ensures { (result.begun ≡ true) × (result.headings ≡ output.headings) }
-{
-    let mut after = output;
-    after.begun = true;
-    if output.headings {
-        after.on = true;
-        if let Err(error) = write_heading(rt, name, output.begun) {
-            return stop(rt, program, after, error);
+impl Output {
+    // Nothing is printed yet.
+    fn new(end: usize) -> Output
+        ensures { result.begun ≡ false }
+    {
+        Output {
+            headings: 2 < end,
+            begun: false,
         }
     }
-    after
+}
+
+impl<'a, R: System> Program<'a, R> {
+    // Standard output has failed: it is complained of, but for where nobody reads on, and nothing more is printed.
+    pub fn stop(&self, error: Error) -> Result<(), Stopped>
+        ensures stops { IsErr result }
+        ensures deserted { (result ≡ Err Stopped.Deserted) ↔ (error_kind error ≡ ErrorKind.BrokenPipe) }
+    {
+        if is_deserted(error) {
+            return Err(Stopped::Deserted);
+        }
+        self.say(self.name);
+        self.give_reason(
+            b": standard output: cannot be written, and the rest is missing there",
+            error,
+        );
+        Err(Stopped::Cut)
+    }
+
+    // Begins a file's part: where there are several files, by ==> NAME <== and, from the second on, an empty line before it, as head and tail do.
+    pub fn head(&self, name: &[u8], output: &mut Output) -> Result<(), Stopped>
+        ensures { (output.new.begun ≡ true) × (output.new.headings ≡ output.old.headings) }
+    {
+        let parted = output.begun;
+        output.begun = true;
+        if !output.headings {
+            return Ok(());
+        }
+        write_heading(self.rt, name, parted).or_else(|error| self.stop(error))
+    }
 }
 
 fn write_heading<R: System>(rt: &R, name: &[u8], parted: bool) -> io::Result<()> {

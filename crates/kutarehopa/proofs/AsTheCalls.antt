@@ -8,17 +8,12 @@ use borrow.Author.Tests.{eqb-true, eqb-false, ne_eqb, ltb-false, ltb-true, lt-le
 use lib.Dec.{ltb, eqb}
 use lib.ListN.{length, drop, length-set}
 use lib.Seq.{take-append_seam, drop-append_seam}
+use Rattle.std.specs.Prelude.{Result, Ok, Err}
 use Rattle.std.specs.Prelude.{if◌then◌else◌}
 use Rattle.cobs.proofs.Tests.{branch, decide, true-false, false-true}
-use Rattle.plain.specs.declared.Sent.{Sent}
-use Rattle.plain.specs.declared.Sent.TheVariants.{Written as written_send, Refused as refused_send}
 use Rattle.plain.specs.Maps.{marked, marking, with_framing, marks_ok}
-use Rattle.plain.specs.Stuffing.{Send}
 use Rattle.link.specs.declared.Settings.{Settings}
-use Rattle.link.specs.declared.sender.Opening.{Opening as SenderOpening}
-use Rattle.link.specs.declared.sender.Opening.TheVariants.{Opened as OpenedSender, Refused as SenderRefused}
-use Rattle.link.specs.declared.receiver.Opening.{Opening as ReceiverOpening}
-use Rattle.link.specs.declared.receiver.Opening.TheVariants.{Opened as OpenedReceiver, Refused as ReceiverRefused}
+use Rattle.link.specs.declared.OpenError.{OpenError}
 use Rattle.link.specs.Agreed.{agreed, valid}
 use Rattle.link.specs.Answers.{Answer, done, octet, idle, quiet, packet, held, refused, is_quiet}
 use Rattle.link.specs.declared.sender.Lane.{Lane}
@@ -30,7 +25,9 @@ use Rattle.link.specs.Sender as sender
 use Rattle.link.specs.Receiver.{ReceiverEnd, Receive, receive}
 use Rattle.link.specs.Receiver as receiver
 use Rattle.link.specs.declared.plain_sender.PlainSender.{PlainSender}
-use Rattle.link.specs.PlainSender.{plain_agreed, plain_line, plain_send}
+use Rattle.link.specs.declared.plain_sender.PairError.{PairError}
+use Rattle.link.specs.declared.plain_sender.SendError.{SendError}
+use Rattle.link.specs.PlainSender.{plain_agreed, plain_line, PlainSent, plain_send}
 use Rattle.link.specs.PlainSender as plain
 use Rattle.link.specs.ReceiverParts.{ReceiverReady}
 use Rattle.link.specs.Runs.{SenderCall, loading, next_octet, Station, after_load, after_next, sender_answers, receives}
@@ -46,7 +43,7 @@ use Rattle.reader.proofs.NothingLost.{is-quiet}
 use Rattle.writer.specs.Pieces.{in_pieces, after_loading, after_piece}
 use Rattle.writer.specs.Writing.{Wrote, Filled, writes_nothing, write_on, onto}
 use Rattle.writer.proofs.Steps.{no_room, no-octet, none_written}
-use Rattle.kutarehopa.specs.Numbers.{number, value, sent_number}
+use Rattle.kutarehopa.specs.Numbers.{number, value, Sent, sent_number}
 use Rattle.kutarehopa.specs.Layout.{settings_in, spell_receiver, receiver_in, receiver_octets, spell_sender, sender_in, sender_octets, spell_plain_sender, plain_sender_in, plain_sender_octets, over}
 use Rattle.kutarehopa.specs.Calls.{short_for_receiver, short_for_sender, no_state, taken, changes, received, receiver_after, ReceiveCall, receive_call, read_to, ReadCall, read_call, loaded, sender_after, LoadCall, load_call, sent, NextCall, next_call, wrote, WriteCall, write_call, receiver_opened, sender_opened, pair_opened, open_receiver, open_sender, open_pair, no_plain_sender, PlainCall, plain_sent, plain_send_call}
 use Rattle.kutarehopa.specs.Spelling.{plain_sender_part}
@@ -280,7 +277,7 @@ runs-as-link =
     }
 
 -- a pair, by what link's opening of it answers
-pair-by : (m o : List ℕ) (settings : Settings) (map : ℕ) (marks : List ℕ) (a : ReceiverOpening) → (plain.open_pair settings map marks).receiver ≡ a
+pair-by : (m o : List ℕ) (settings : Settings) (map : ℕ) (marks : List ℕ) (a : Result Receiver PairError) → (plain.open_pair settings map marks).receiver ≡ a
     → open_pair m o settings map marks ≡ pair_opened m o (plain.opened_plain_sender settings marks) a
 unfolding open_pair
 pair-by m o settings map marks a = ap (pair_opened m o (plain.opened_plain_sender settings marks))
@@ -301,9 +298,9 @@ opened-is-packed =
       receiver = λ m settings reading v. ap (receiver_opened m) (valid-first.receiver_opens settings reading v);
       sender = λ m settings v. ap (sender_opened m) (valid-first.sender_opens settings v);
       pair = λ m o settings map marks v r. pair-by m o settings map marks _ (pair-opens.opens settings map marks v r);
-      no_receiver = λ m settings reading n. ap (receiver_opened m);
-      no_sender = λ m settings n. ap (sender_opened m);
-      no_pair = λ m o settings map marks n. pair-by m o settings map marks (ReceiverRefused n);
+      no_receiver = λ m settings reading e. ap (receiver_opened m);
+      no_sender = λ m settings e. ap (sender_opened m);
+      no_pair = λ m o settings map marks e. pair-by m o settings map marks (Err e);
       marks = λ settings marks full. framing-length marks ∙ full;
     }
 
@@ -437,13 +434,13 @@ module _ (n : ℕ) (few : n < 5) where
       a ∙ ap (λ (k : ℕ). record { answer = k; state = m; area = area }) (sym (ap (λ (h : LoadCall). h.answer) a) ∙ q))
 
   -- a plain send, by its answer
-  refused-sent : (h : Send) (area : List ℕ) → ((k : ℕ) → h.answer ≡ refused_send k → h.area ≡ area) → sent_number h.answer ≡ number (refused n)
+  refused-sent : (h : PlainSent) (area : List ℕ) → ((k : SendError) → h.answer ≡ Err k → h.area ≡ area) → sent_number h.answer ≡ number (refused n)
       → plain_sent h ≡ record { answer = number (refused n); area = area }
   refused-sent h area same q = by h.answer refl
     where
       by : (a : Sent) → h.answer ≡ a → plain_sent h ≡ record { answer = number (refused n); area = area }
-      by (written_send k) e = absurd (let z : sent_number (written_send k) ≡ number (refused n) = ap sent_number (sym e) ∙ q in omega (arith, z))
-      by (refused_send k) e = rw (q, same k e)
+      by (Ok k) e = absurd (let z : sent_number (Ok k) ≡ number (refused n) = ap sent_number (sym e) ∙ q in omega (arith, z))
+      by (Err k) e = rw (q, same k e)
 
   refused-plain : (m p area : List ℕ) → (plain_send_call m p area).answer ≡ number (refused n) → plain_send_call m p area ≡ record { answer = number (refused n); area = area }
   refused-plain m p area q =
@@ -733,19 +730,19 @@ module _ (m low_area high_area : List ℕ) where
 
 -- an opening, by its answer
 module _ (m : List ℕ) where
-  receiver-opened-rest : (o : ReceiverOpening) → drop 26 (receiver_opened m o).state ≡ drop 26 m
-  receiver-opened-rest (OpenedReceiver r) = receiver-rest m r
-  receiver-opened-rest (ReceiverRefused n) = refl
+  receiver-opened-rest : (o : Result Receiver OpenError) → drop 26 (receiver_opened m o).state ≡ drop 26 m
+  receiver-opened-rest (Ok r) = receiver-rest m r
+  receiver-opened-rest (Err e) = refl
 
-  sender-opened-rest : (o : SenderOpening) → drop 38 (sender_opened m o).state ≡ drop 38 m
-  sender-opened-rest (OpenedSender s) = sender-rest m s
-  sender-opened-rest (SenderRefused n) = refl
+  sender-opened-rest : (o : Result Sender OpenError) → drop 38 (sender_opened m o).state ≡ drop 38 m
+  sender-opened-rest (Ok s) = sender-rest m s
+  sender-opened-rest (Err e) = refl
 
-  pair-opened-rest : (o : List ℕ) (s : PlainSender) → length s.marks ≡ 32 → (a : ReceiverOpening)
+  pair-opened-rest : (o : List ℕ) (s : PlainSender) → length s.marks ≡ 32 → (a : Result Receiver PairError)
       → (drop 36 (pair_opened m o s a).sender ≡ drop 36 m) × (drop 26 (pair_opened m o s a).receiver ≡ drop 26 o)
   unfolding plain_sender_octets
-  pair-opened-rest o s full (OpenedReceiver r) = (rest 36 (plain_sender_octets s) m (omega (arith, full)), receiver-rest o r)
-  pair-opened-rest o s full (ReceiverRefused n) = (refl, refl)
+  pair-opened-rest o s full (Ok r) = (rest 36 (plain_sender_octets s) m (omega (arith, full)), receiver-rest o r)
+  pair-opened-rest o s full (Err e) = (refl, refl)
 
 -- what a plain send makes of octets whose rest is other
 plain-rest : (m n p area : List ℕ) → plain_sender_part n ≡ plain_sender_part m → plain_send_call n p area ≡ plain_send_call m p area

@@ -2,19 +2,19 @@
 use mathlib.Core.Path.{◌≡◌}
 use mathlib.Core.Bool.{true, false, ◌||◌}
 use mathlib.Core.List.{List}
-use Prim.Native.Nat.{ℕ, ◌-◌}
+use Prim.Native.Nat.{ℕ}
 use borrow.Author.Tests.{eq-eqb, ne_eqb}
-use lib.ListN.{length, get_or}
-use Rattle.link.specs.Answers.{Answer, octet, quiet}
+use lib.ListN.{length}
+use Rattle.link.specs.Answers.{quiet}
 use Rattle.link.specs.declared.sender.Lane.{Lane}
 use Rattle.link.specs.declared.sender.Sender.{Sender}
 use Rattle.link.specs.Sender.{SenderEnd, load, next, seen}
 use Rattle.link.specs.Receiver.{receive}
 use Rattle.link.specs.PlainSender.{plain_send}
 use Rattle.reader.specs.Reading.{read_on}
-use Rattle.writer.specs.Writing.{Filled, write_on, onto}
+use Rattle.writer.specs.Writing.{write_on, onto}
 use Rattle.kutarehopa.specs.Numbers.{number}
-use Rattle.kutarehopa.specs.Layout.{settings_in, spell_receiver, receiver_in, spell_sender, sender_in, sender_octets, spell_plain_sender, plain_sender_in, over}
+use Rattle.kutarehopa.specs.Layout.{settings_in, spell_receiver, receiver_in, spell_sender, sender_in, spell_plain_sender, plain_sender_in}
 use Rattle.kutarehopa.specs.Calls.{no_state, short_for_receiver, short_for_sender, received, receive_call, read_to, read_call, loaded, load_call, sent, next_call, wrote, write_call, no_plain_sender, plain_sent, plain_send_call}
 
 -- ---- the receiver
@@ -84,15 +84,6 @@ module _ (m low high : List ℕ) where
   pub writes_nothing_lem : (line : List ℕ) → length line ≡ 0 → write_call m low high line ≡ record { answer = number quiet; written = 0; state = m; line = line }
   unfolding write_call
   writes_nothing_lem line h = simp (eq-eqb _ _ h)
-
--- of what was written
-
-pub wrote_none : (m : List ℕ) (a : Answer) (t : Filled) → t.filled ≡ 0 → record { answer = number a; written = 0; state = m; line = t.line } ≡ wrote m a t
-wrote_none m a t z = simp (eq-eqb _ _ z)
-
-pub wrote-some : (m : List ℕ) (a : Answer) (t : Filled) → (t.filled ≡ 0 → ⊥)
-    → record { answer = number (octet (get_or t.line (t.filled - 1) 0)); written = t.filled; state = over (sender_octets t.state) m; line = t.line } ≡ wrote m a t
-wrote-some m a t z = simp (ne_eqb _ _ z)
 
 -- ---- the plain sender
 

@@ -4,15 +4,15 @@ use mathlib.Core.Path.{refl}
 use Rattle.fcs.specs.Notation.{◌⊕◌}
 use Rattle.fcs.specs.CheckSequence.{bit_step, bit_steps, entry, octet_step, feed, register, low_first, fcs}
 use Rattle.plain.specs.Maps.{removed, marked, marking, with_framing, some_from, lacks, marks_wrongly, refused_pair, marks_ok}
-use Rattle.plain.specs.Stuffing.{toggled, stuffed_octet, stuffed, line, send}
+use Rattle.plain.specs.Stuffing.{toggled, stuffed_octet, stuffed, line}
 use Rattle.link.specs.Agreed.{agreed, valid}
-use Rattle.link.specs.PlainSender.{plain_send}
+use Rattle.link.specs.PlainSender.{send_with, plain_send}
 use Rattle.kutarehopa.specs.Calls.{open_receiver, open_sender, open_pair, plain_send_call}
 use Rattle.kutarehopa.specs.Layout.{octets_from, spell_receiver, receiver_in, receiver_octets, spell_sender, sender_octets, spell_plain_sender, plain_sender_in, plain_sender_octets}
 use Rattle.kutarehopa.specs.Marked.{MarkedOctets, MarkedNumbers}
 
 pub marked-octets : MarkedOctets
-unfolding agreed valid open_receiver open_sender open_pair spell_receiver receiver_in receiver_octets spell_sender sender_octets octets_from spell_plain_sender plain_sender_in plain_sender_octets plain_send_call plain_send send line stuffed stuffed_octet toggled flat_map removed marked marking with_framing some_from lacks marks_wrongly refused_pair marks_ok ◌⊕◌ bit_step bit_steps entry octet_step feed register low_first fcs
+unfolding agreed valid open_receiver open_sender open_pair spell_receiver receiver_in receiver_octets spell_sender sender_octets octets_from spell_plain_sender plain_sender_in plain_sender_octets plain_send_call plain_send send_with line stuffed stuffed_octet toggled flat_map removed marked marking with_framing some_from lacks marks_wrongly refused_pair marks_ok ◌⊕◌ bit_step bit_steps entry octet_step feed register low_first fcs
 marked-octets =
     record {
       receiver = refl;

@@ -5,29 +5,29 @@ use mathlib.Core.Path.{◌≡◌, refl}
 use mathlib.Core.Bool.{Bool, true, false, not, ◌||◌}
 use Prim.Native.Nat.{ℕ, ◌+◌, ◌*◌, ◌≤◌, ◌<◌}
 use native.Mathlib.Omega.{arith}
-use borrow.Author.Tests.{not-false, ltb-false}
+use borrow.Author.Tests.{not-false}
 use lib.Dec.{ltb, eqb}
 use lib.ListN.{length, length-append}
+use Rattle.std.specs.Prelude.{Ok, Err}
 use Rattle.std.specs.Prelude.{if◌then◌else◌}
 use Rattle.cobs.specs.CodeBlocks.{frame}
 use Rattle.cobs.proofs.Tests.{branch, decide}
-use Rattle.plain.specs.declared.Sent.{Sent}
-use Rattle.plain.specs.declared.Sent.TheVariants.{Written as written, Refused as refused_send}
 use Rattle.plain.specs.Maps.{marked, marks_ok}
-use Rattle.plain.specs.Stuffing.{Send, stuffed, line}
-use Rattle.plain.proofs.Laws.{line-is, stuffed-nil, stuffed-cons, unmarked-octet, marked-octet, sends}
+use Rattle.plain.specs.Stuffing.{stuffed, line}
+use Rattle.plain.proofs.Laws.{line-is, stuffed-nil, stuffed-cons, unmarked-octet, marked-octet}
 use Rattle.link.specs.declared.Settings.{Settings}
 use Rattle.link.specs.Answers.{Answer, done, octet, idle, quiet, packet, held, refused}
 use Rattle.link.specs.Agreed.{agreed, least_packet, valid}
 use Rattle.link.specs.Receiver.{receive}
-use Rattle.link.specs.PlainSender.{plain_agreed, plain_line, plain_send}
+use Rattle.link.specs.declared.plain_sender.SendError.TheVariants.{PacketLength as wrong_length, NoRoom as no_room, OutOfBounds as out_of_bounds}
+use Rattle.link.specs.PlainSender.{plain_agreed, plain_line, PlainSent, send_with, plain_send}
 use Rattle.link.specs.EachCall.{Within}
 use Rattle.link.proofs.Tests.{not-below}
 use Rattle.link.proofs.Agreed.{limit-at-most, frame-at-most, decoded-at-most}
 use Rattle.link.proofs.Follow.{frame-long}
 use Rattle.link.proofs.EachCall.{valid-first}
 use Rattle.link.proofs.Within.{within, by-report}
-use Rattle.kutarehopa.specs.Numbers.{numbered, kind, mark, value, number, sent_kind, sent_value, kind_of, mark_of, value_of, answer_with, sent_with, Apart, SentApart, NumbersComeApart, ReportsHaveNumbers, SendsHaveNumbers}
+use Rattle.kutarehopa.specs.Numbers.{numbered, kind, mark, value, number, Sent, sent_kind, sent_value, kind_of, mark_of, value_of, answer_with, sent_with, Apart, SentApart, NumbersComeApart, ReportsHaveNumbers, SendsHaveNumbers}
 
 -- kind, mark and value of a number with a small value
 module _ (k v : ℕ) (h : v < 0x10000) where
@@ -64,8 +64,10 @@ answer-apart a h =
     record { kind = k; mark = m; value = v; answer = rw (k, m, v, mark-back (mark a)) (with-these a) }
 
 sent-with-these : (a : Sent) → sent_with (sent_kind a) (sent_value a) ≡ a
-sent-with-these (written n) = refl
-sent-with-these (refused_send n) = refl
+sent-with-these (Ok n) = refl
+sent-with-these (Err wrong_length) = refl
+sent-with-these (Err no_room) = refl
+sent-with-these (Err out_of_bounds) = refl
 
 sent-apart : (a : Sent) → sent_value a < 0x10000 → SentApart a
 sent-apart a h =
@@ -73,7 +75,7 @@ sent-apart a h =
     let v = value-of (sent_kind a) (sent_value a) h false in
     record { kind = k; mark = mark-of (sent_kind a) (sent_value a) h false; value = v; answer = rw (k, v) (sent-with-these a) }
 
-other-kinds : (a : Answer) (n : ℕ) → kind a ≡ sent_kind (written n) → ⊥
+other-kinds : (a : Answer) (n : ℕ) → kind a ≡ sent_kind (Ok n) → ⊥
 other-kinds quiet n e = omega (arith, e)
 other-kinds (packet in_second k) n e = omega (arith, e)
 other-kinds (held k replaced) n e = omega (arith, e)
@@ -111,10 +113,10 @@ line-at-most : (marks f : List ℕ) → length (line marks f) ≤ 2 * length f +
 line-at-most marks f = rw (line-is marks f, length-append) (omega (arith, stuffed-at-most marks f))
 
 pub sends-have-numbers : SendsHaveNumbers
-unfolding plain_send
+unfolding agreed plain_send send_with
 sends-have-numbers s p area =
     let g = plain_agreed s in
-    let P : Send → Type 0 = λ t. sent_value t.answer < 0x10000 in
+    let P : PlainSent → Type 0 = λ t. sent_value t.answer < 0x10000 in
     branch P (not (valid g)) (λ _. omega arith)
     (λ v. branch P (ltb (length area) (length (plain_line s p))) (λ _. omega arith)
     (λ k. branch P (not (marks_ok s.marks)) (λ _. omega arith)
@@ -123,8 +125,7 @@ sends-have-numbers s p area =
     let frame-length = frame-long g p in
     let fits = not-below (length p) least_packet g.limit (length p) b in
     let settings : Settings = record { octet = 0; width = s.width; limit = s.limit } in
-    rw (sends s.marks (frame g.check p) area (ltb-false _ _ k))
-    (omega (arith, line-at-most s.marks (frame g.check p), frame-at-most settings (not-false (valid g) v)))))))
+    omega (arith, line-at-most s.marks (frame g.check p), frame-at-most settings (not-false (valid g) v))))))
 
 -- ---- which answer it is
 

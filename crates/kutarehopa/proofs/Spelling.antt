@@ -9,17 +9,15 @@ use borrow.Author.Tests.{leb-true, eqb-true, eqb-false, eq-eqb}
 use lib.Dec.{leb, eqb}
 use lib.ListN.{length, drop, get_or, get_or-append}
 use lib.Seq.{get_or-append-add, ext_get_or}
+use Rattle.std.specs.Prelude.{Some, None, is_some}
 use Rattle.std.specs.Prelude.{if◌then◌else◌}
 use Rattle.cobs.proofs.Tests.{and_left, and_right}
 use Rattle.link.proofs.Tests.{ands}
 use Rattle.link.specs.Agreed.{Agreed, agreed}
-use Rattle.link.specs.Receiver.{carried}
+use Rattle.link.specs.Receiver.{Held, holds, carried}
 use Rattle.link.specs.declared.sender.Lane.TheVariants.{Low as low, High as high}
-use Rattle.link.specs.declared.sender.OnLine.{OnLine}
-use Rattle.link.specs.declared.sender.OnLine.TheVariants.{NoLane as no_lane, Sending as sending}
+use Rattle.link.specs.Sender.{OnLine}
 use Rattle.link.specs.declared.sender.Sender.{Sender}
-use Rattle.link.specs.declared.receiver.Fragment.{Fragment}
-use Rattle.link.specs.declared.receiver.Fragment.TheVariants.{NothingHeld as nothing_held, Holds as holds}
 use Rattle.link.specs.declared.receiver.LastBlock.{LastBlock}
 use Rattle.link.specs.declared.receiver.LastBlock.TheVariants.{NoBlock as no_block, BlockD0 as block_d0, OtherBlock as other_block}
 use Rattle.link.specs.declared.receiver.Mode.{Mode}
@@ -42,22 +40,18 @@ mark-back : (b : Bool) → eqb (mark_octet b) 1 ≡ b
 mark-back true = refl
 mark-back false = refl
 
-held_small : (f : Fragment) → leb (held_octet f) 1 ≡ true
-held_small nothing_held = refl
-held_small (holds n k) = refl
-
 long-back : (n : ℕ) → low_octet n + 256 * second_octet n + 65536 * third_octet n + 16777216 * fourth_octet n ≡ n
 long-back n = omega arith
 
-held_back : (g : Agreed) (f : Fragment)
-    → (if eqb (held_octet f) 1 then holds (low_octet (held_count f) + 256 * high_octet (held_count f)) (carried g f) else nothing_held) ≡ f
-held_back g nothing_held = refl
-held_back g (holds n k) = rw (number-back n)
+held_back : (g : Agreed) (f : Held)
+    → (if eqb (held_octet f) 1 then holds (low_octet (held_count f) + 256 * high_octet (held_count f)) (carried g f) else None) ≡ f
+held_back g None = refl
+held_back g (Some f) = rw (number-back f.count)
 
 -- where nothing is held the register is at its start
-start_back : (g : Agreed) (f : Fragment) → (eqb (held_octet f) 1 || eqb (carried g f) (carried g nothing_held)) ≡ true
-start_back g nothing_held = eq-eqb (carried g nothing_held) (carried g nothing_held) refl
-start_back g (holds n k) = refl
+start_back : (g : Agreed) (f : Held) → (eqb (held_octet f) 1 || eqb (carried g f) (carried g None)) ≡ true
+start_back g None = eq-eqb (carried g None) (carried g None) refl
+start_back g (Some f) = refl
 
 last-small : (b : LastBlock) → leb (last_block_octet b) 2 ≡ true
 last-small no_block = refl
@@ -82,14 +76,14 @@ mode-back plain = refl
 mode-back escape_open = refl
 
 line_small : (o : OnLine) → leb (line_octet o) 2 ≡ true
-line_small no_lane = refl
-line_small (sending low) = refl
-line_small (sending high) = refl
+line_small None = refl
+line_small (Some low) = refl
+line_small (Some high) = refl
 
 line-back : (o : OnLine) → line_of (line_octet o) ≡ o
-line-back no_lane = refl
-line-back (sending low) = refl
-line-back (sending high) = refl
+line-back None = refl
+line-back (Some low) = refl
+line-back (Some high) = refl
 
 -- ---- octets as a field and back
 
@@ -174,7 +168,7 @@ receiver-spelled r m =
       long-back (carried (agreed r.settings) r.held),
       mode_small r.mode,
       mark-small r.turn,
-      held_small r.held,
+      mark-small (is_some r.held),
       last-small r.last,
       mark-small r.framed,
       mark-small r.resumed,
@@ -249,12 +243,12 @@ ReceiverTests m =
     × (leb (octet_at m 22) 2 ≡ true)
     × (leb (octet_at m 23) 1 ≡ true)
     × (leb (octet_at m 24) 1 ≡ true)
-    × ((mark_at m 13 || eqb (long_at m 16) (carried (agreed (settings_in m)) nothing_held)) ≡ true)
+    × ((mark_at m 13 || eqb (long_at m 16) (carried (agreed (settings_in m)) None)) ≡ true)
 
 receiver-tests : (m : List ℕ) → spell_receiver m ≡ true → ReceiverTests m
 unfolding spell_receiver
 receiver-tests m s =
-    let start = mark_at m 13 || eqb (long_at m 16) (carried (agreed (settings_in m)) nothing_held) in
+    let start = mark_at m 13 || eqb (long_at m 16) (carried (agreed (settings_in m)) None) in
     let two = eqb (octet_at m 0) 1 && leb (octet_at m 5) 3 in
     let seven = two && leb (octet_at m 10) 1 && leb (octet_at m 13) 1 && leb (octet_at m 22) 2 && leb (octet_at m 23) 1 && leb (octet_at m 24) 1 in
     let t = ands two (leb (octet_at m 10) 1) (leb (octet_at m 13) 1) (leb (octet_at m 22) 2) (leb (octet_at m 23) 1) (leb (octet_at m 24) 1) (and_left seven start s) in
@@ -301,7 +295,7 @@ module _ (m : List ℕ) (o : (i : ℕ) → octet_at m i < 256) where
       )
   receiver-again t false h =
       let none : octet_at m 13 ≡ 0 = omega (arith, leb-true (octet_at m 13) 1 t.3, eqb-false (octet_at m 13) 1 h) in
-      let start : carried (agreed (settings_in m)) nothing_held ≡ long_at m 16 = sym (eqb-true (long_at m 16) _ (rw h at t.7)) in
+      let start : carried (agreed (settings_in m)) None ≡ long_at m 16 = sym (eqb-true (long_at m 16) _ (rw h at t.7)) in
       rw (
         h,
         start,
@@ -408,8 +402,8 @@ module _ (m n : List ℕ) where
   same-receiver held e = let at = same_at (places_if_held held) e in (at 0, at 1, at 2, at 3, at 4, at 5, at 6, at 7, at 8, at 9, at 10, at 11, at 12, at 13, at 14, at 15, at 16, at 17, at 18, at 19, at 20, at 21, at 22, at 23)
 
   same-held : (held : Bool) → mark_at m 13 ≡ held → octets_at n (places_if_held held) ≡ octets_at m (places_if_held held)
-      → (if mark_at m 13 then holds (octet_at n 14 + 256 * octet_at n 15) (long_at m 16) else nothing_held)
-      ≡ (if mark_at m 13 then holds (octet_at m 14 + 256 * octet_at m 15) (long_at m 16) else nothing_held)
+      → (if mark_at m 13 then holds (octet_at n 14 + 256 * octet_at n 15) (long_at m 16) else None)
+      ≡ (if mark_at m 13 then holds (octet_at m 14 + 256 * octet_at m 15) (long_at m 16) else None)
   same-held true h e =
       let at = same_at (places_if_held true) e in
       let low : octet_at n 14 ≡ octet_at m 14 = at 24 in

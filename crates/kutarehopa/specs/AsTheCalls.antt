@@ -1,24 +1,22 @@
 -- The calls on octets and the calls on states (link's, reader's, writer's). Each is proved in proofs/AsTheCalls.antt.
-use Rattle.std.specs.Prelude.{true, false, List, [], ◌∷◌, ◌++◌, map, ◌≡◌, ℕ, ◌-◌, ◌<◌, eqb, length, take, drop, get_or}
+use Rattle.std.specs.Prelude.{true, false, List, [], ◌∷◌, ◌++◌, map, ◌≡◌, ℕ, ◌-◌, ◌<◌, eqb, length, take, drop, get_or, Some, Err}
 use Rattle.std.specs.Prelude.{if◌then◌else◌}
 use Rattle.plain.specs.Maps.{refused_pair, marks_ok}
 use Rattle.link.specs.declared.Settings.{Settings}
+use Rattle.link.specs.declared.OpenError.{OpenError}
 use Rattle.link.specs.Agreed.{agreed, valid}
-use Rattle.link.specs.declared.sender.Opening.TheVariants.{Refused as SenderRefused}
-use Rattle.link.specs.declared.receiver.Opening.TheVariants.{Refused as ReceiverRefused}
-use Rattle.link.specs.Answers.{Answer, done, octet, idle, quiet, refused}
+use Rattle.link.specs.Answers.{open_refusal, Answer, done, octet, idle, quiet, refused}
 use Rattle.link.specs.declared.sender.Lane.{Lane}
 use Rattle.link.specs.declared.sender.Lane.TheVariants.{Low as low, High as high}
 use Rattle.link.specs.declared.sender.Sender.{Sender}
 use Rattle.link.specs.declared.receiver.Receiver.{Receiver}
 use Rattle.link.specs.Sender.{SenderEnd, Load, Next, load, next, seen}
 use Rattle.link.specs.Sender as sender
-use Rattle.link.specs.Receiver.{ReceiverEnd, Receive, receive}
+use Rattle.link.specs.Receiver.{PlainReading, ReceiverEnd, Receive, receive}
 use Rattle.link.specs.Receiver as receiver
-use Rattle.link.specs.declared.receiver.PlainReading.{PlainReading}
-use Rattle.link.specs.declared.receiver.PlainReading.TheVariants.{On as reading_on}
 use Rattle.link.specs.declared.plain_sender.PlainSender.{PlainSender}
-use Rattle.link.specs.PlainSender.{opened_plain_sender, plain_line, plain_send}
+use Rattle.link.specs.declared.plain_sender.PairError.{PairError}
+use Rattle.link.specs.PlainSender.{pair_refusal, opened_plain_sender, plain_line, plain_send}
 use Rattle.link.specs.PlainSender as plain
 use Rattle.link.specs.Runs.{SenderCall, loading, next_octet, Station, sender_answers, receives}
 use Rattle.reader.specs.Reading.{Reach, read_on}
@@ -155,18 +153,18 @@ pub record RunsAsLink : Type 0 where
 -- An opening that is refused, by whatever number, leaves all octets; an opened end is packed. Of a pair both are, or both stay.
 --   marks: a pair's sender has 32 octets of marks, if those handed in are 32, so that packed it spells itself
 pub record OpenedIsPacked : Type 0 where
-  pub no_receiver : (m : List ℕ) (settings : Settings) (reading : PlainReading) (n : ℕ) → receiver.open_receiver settings reading ≡ ReceiverRefused n
-      → open_receiver m settings reading ≡ record { answer = number (refused n); state = m }
-  pub no_sender : (m : List ℕ) (settings : Settings) (n : ℕ) → sender.open_sender settings ≡ SenderRefused n
-      → open_sender m settings ≡ record { answer = number (refused n); state = m }
-  pub no_pair : (m o : List ℕ) (settings : Settings) (map : ℕ) (marks : List ℕ) (n : ℕ) → (plain.open_pair settings map marks).receiver ≡ ReceiverRefused n
-      → open_pair m o settings map marks ≡ record { answer = number (refused n); sender = m; receiver = o }
+  pub no_receiver : (m : List ℕ) (settings : Settings) (reading : PlainReading) (e : OpenError) → receiver.open_receiver settings reading ≡ Err e
+      → open_receiver m settings reading ≡ record { answer = number (refused (open_refusal e)); state = m }
+  pub no_sender : (m : List ℕ) (settings : Settings) (e : OpenError) → sender.open_sender settings ≡ Err e
+      → open_sender m settings ≡ record { answer = number (refused (open_refusal e)); state = m }
+  pub no_pair : (m o : List ℕ) (settings : Settings) (map : ℕ) (marks : List ℕ) (e : PairError) → (plain.open_pair settings map marks).receiver ≡ Err e
+      → open_pair m o settings map marks ≡ record { answer = number (refused (pair_refusal e)); sender = m; receiver = o }
   pub pair : (m o : List ℕ) (settings : Settings) (map : ℕ) (marks : List ℕ) → valid (agreed settings) ≡ true → refused_pair map marks ≡ false
       → open_pair m o settings map marks
       ≡ record {
         answer = number done;
         sender = over (plain_sender_octets (opened_plain_sender settings marks)) m;
-        receiver = over (receiver_octets (receiver.opened_receiver settings (reading_on map))) o;
+        receiver = over (receiver_octets (receiver.opened_receiver settings (Some map))) o;
       }
   pub receiver : (m : List ℕ) (settings : Settings) (reading : PlainReading) → valid (agreed settings) ≡ true
       → open_receiver m settings reading ≡ record { answer = number done; state = over (receiver_octets (receiver.opened_receiver settings reading)) m }

@@ -1,26 +1,21 @@
 -- The calls of the C library: what each answers, and the octets of its state and its areas after it. Each is the call of link, of reader or of
 -- writer on the state that the octets spell.
-use Rattle.std.specs.Prelude.{Bool, true, false, not, ◌||◌, List, ℕ, ◌-◌, leb, ltb, eqb, length, get_or}
+use Rattle.std.specs.Prelude.{Bool, true, false, not, ◌||◌, List, ℕ, ◌-◌, leb, ltb, eqb, length, get_or, Some, None, Result, Ok, Err}
 use Rattle.std.specs.Prelude.{if◌then◌else◌}
-use Rattle.plain.specs.Stuffing.{Send}
 use Rattle.link.specs.declared.Settings.{Settings}
+use Rattle.link.specs.declared.OpenError.{OpenError}
 use Rattle.link.specs.Agreed.{agreed, valid, largest_frame, most_decoded}
-use Rattle.link.specs.Answers.{Answer, done, octet, idle, quiet, packet, held, refused}
+use Rattle.link.specs.Answers.{open_refusal, Answer, done, octet, idle, quiet, packet, held, refused}
 use Rattle.link.specs.declared.sender.Lane.{Lane}
 use Rattle.link.specs.declared.sender.Sender.{Sender}
-use Rattle.link.specs.declared.sender.Opening.{Opening as SenderOpening}
-use Rattle.link.specs.declared.sender.Opening.TheVariants.{Opened as OpenedSender, Refused as SenderRefused}
 use Rattle.link.specs.Sender.{SenderEnd, Load, Next, load, next, seen}
 use Rattle.link.specs.Sender as sender
 use Rattle.link.specs.declared.receiver.Receiver.{Receiver}
-use Rattle.link.specs.declared.receiver.Opening.{Opening as ReceiverOpening}
-use Rattle.link.specs.declared.receiver.Opening.TheVariants.{Opened as OpenedReceiver, Refused as ReceiverRefused}
-use Rattle.link.specs.declared.receiver.PlainReading.{PlainReading}
-use Rattle.link.specs.declared.receiver.PlainReading.TheVariants.{Off as reading_off, On as reading_on}
-use Rattle.link.specs.Receiver.{Receive, receive}
+use Rattle.link.specs.Receiver.{PlainReading, Receive, receive}
 use Rattle.link.specs.Receiver as receiver
 use Rattle.link.specs.declared.plain_sender.PlainSender.{PlainSender}
-use Rattle.link.specs.PlainSender.{plain_line, plain_send}
+use Rattle.link.specs.declared.plain_sender.PairError.{PairError}
+use Rattle.link.specs.PlainSender.{pair_refusal, plain_line, PlainSent, plain_send}
 use Rattle.link.specs.PlainSender as plain
 use Rattle.reader.specs.Reading.{Reach, read_on}
 use Rattle.writer.specs.Writing.{Filled, write_on, onto}
@@ -34,20 +29,20 @@ pub record OpenCall : Type 0 where
   pub state : List ℕ
 
 -- the octets of the opened state, and where the opening is refused as they were
-abbrev pub receiver_opened : List ℕ → ReceiverOpening → OpenCall
-receiver_opened m (OpenedReceiver r) = record { answer = number done; state = over (receiver_octets r) m }
-receiver_opened m (ReceiverRefused n) = record { answer = number (refused n); state = m }
+abbrev pub receiver_opened : List ℕ → Result Receiver OpenError → OpenCall
+receiver_opened m (Ok r) = record { answer = number done; state = over (receiver_octets r) m }
+receiver_opened m (Err e) = record { answer = number (refused (open_refusal e)); state = m }
 
 unfoldable pub open_receiver : List ℕ → Settings → PlainReading → OpenCall
 open_receiver m settings reading = receiver_opened m (receiver.open_receiver settings reading)
 
 -- Plain reading is off with 0 in the mark, whatever the map, and else on.
 abbrev pub reading_of : ℕ → ℕ → PlainReading
-reading_of mark map = if eqb mark 0 then reading_off else reading_on map
+reading_of mark map = if eqb mark 0 then None else Some map
 
-abbrev pub sender_opened : List ℕ → SenderOpening → OpenCall
-sender_opened m (OpenedSender s) = record { answer = number done; state = over (sender_octets s) m }
-sender_opened m (SenderRefused n) = record { answer = number (refused n); state = m }
+abbrev pub sender_opened : List ℕ → Result Sender OpenError → OpenCall
+sender_opened m (Ok s) = record { answer = number done; state = over (sender_octets s) m }
+sender_opened m (Err e) = record { answer = number (refused (open_refusal e)); state = m }
 
 unfoldable pub open_sender : List ℕ → Settings → OpenCall
 open_sender m settings = sender_opened m (sender.open_sender settings)
@@ -58,9 +53,9 @@ pub record PairCall : Type 0 where
   pub sender : List ℕ
   pub receiver : List ℕ
 
-abbrev pub pair_opened : List ℕ → List ℕ → PlainSender → ReceiverOpening → PairCall
-pair_opened m n s (OpenedReceiver r) = record { answer = number done; sender = over (plain_sender_octets s) m; receiver = over (receiver_octets r) n }
-pair_opened m n s (ReceiverRefused k) = record { answer = number (refused k); sender = m; receiver = n }
+abbrev pub pair_opened : List ℕ → List ℕ → PlainSender → Result Receiver PairError → PairCall
+pair_opened m n s (Ok r) = record { answer = number done; sender = over (plain_sender_octets s) m; receiver = over (receiver_octets r) n }
+pair_opened m n s (Err e) = record { answer = number (refused (pair_refusal e)); sender = m; receiver = n }
 
 unfoldable pub open_pair : List ℕ → List ℕ → Settings → ℕ → List ℕ → PairCall
 open_pair m n settings map marks = let p = plain.open_pair settings map marks in pair_opened m n p.sender p.receiver
@@ -215,7 +210,7 @@ pub record PlainCall : Type 0 where
   pub answer : ℕ
   pub area : List ℕ
 
-abbrev pub plain_sent : Send → PlainCall
+abbrev pub plain_sent : PlainSent → PlainCall
 plain_sent h = record { answer = sent_number h.answer; area = h.area }
 
 -- Octets that spell no state are refused as a sending map out of bounds is: 3 of a width or a limit that is not valid, 2 where frame and flag

@@ -23,17 +23,14 @@
 --   24      resumed                        1       width
 --   25      remembered refusal             2-3     limit
 --                                          4-35    sending map
-use Rattle.std.specs.Prelude.{Bool, true, false, ◌&&◌, ◌||◌, List, [], ◌∷◌, ◌++◌, ℕ, zero, suc, ◌+◌, ◌*◌, ◌/◌, ◌%◌, leb, eqb, length, drop, get_or, replicate}
+use Rattle.std.specs.Prelude.{Bool, true, false, ◌&&◌, ◌||◌, List, [], ◌∷◌, ◌++◌, ℕ, zero, suc, ◌+◌, ◌*◌, ◌/◌, ◌%◌, leb, eqb, length, drop, get_or, replicate, Some, None, is_some}
 use Rattle.std.specs.Prelude.{if◌then◌else◌}
 use Rattle.link.specs.Agreed.{agreed}
-use Rattle.link.specs.Receiver.{carried}
+use Rattle.link.specs.Receiver.{Held, holds, carried}
 use Rattle.link.specs.declared.Settings.{Settings}
 use Rattle.link.specs.declared.sender.Lane.TheVariants.{Low as low, High as high}
-use Rattle.link.specs.declared.sender.OnLine.{OnLine}
-use Rattle.link.specs.declared.sender.OnLine.TheVariants.{NoLane as no_lane, Sending as sending}
+use Rattle.link.specs.Sender.{OnLine}
 use Rattle.link.specs.declared.sender.Sender.{Sender}
-use Rattle.link.specs.declared.receiver.Fragment.{Fragment}
-use Rattle.link.specs.declared.receiver.Fragment.TheVariants.{NothingHeld as nothing_held, Holds as holds}
 use Rattle.link.specs.declared.receiver.LastBlock.{LastBlock}
 use Rattle.link.specs.declared.receiver.LastBlock.TheVariants.{NoBlock as no_block, BlockD0 as block_d0, OtherBlock as other_block}
 use Rattle.link.specs.declared.receiver.Mode.{Mode}
@@ -105,19 +102,18 @@ mode_octet cobs = 1
 mode_octet plain = 2
 mode_octet escape_open = 3
 
-abbrev pub held_count : Fragment → ℕ
-held_count nothing_held = 0
-held_count (holds n k) = n
+abbrev pub held_count : Held → ℕ
+held_count None = 0
+held_count (Some f) = f.count
 
-abbrev pub held_octet : Fragment → ℕ
-held_octet nothing_held = 0
-held_octet (holds n k) = 1
+abbrev pub held_octet : Held → ℕ
+held_octet h = mark_octet (is_some h)
 
 -- whether octets spell a receiver's state: where nothing is held, the register is at its start
 unfoldable pub spell_receiver : List ℕ → Bool
 spell_receiver m =
     eqb (octet_at m 0) 1 && leb (octet_at m 5) 3 && leb (octet_at m 10) 1 && leb (octet_at m 13) 1 && leb (octet_at m 22) 2 && leb (octet_at m 23) 1 && leb (octet_at m 24) 1
-    && (mark_at m 13 || eqb (long_at m 16) (carried (agreed (settings_in m)) nothing_held))
+    && (mark_at m 13 || eqb (long_at m 16) (carried (agreed (settings_in m)) None))
 
 -- the state that they spell,
 unfoldable pub receiver_in : List ℕ → Receiver
@@ -128,7 +124,7 @@ receiver_in m =
       map = long_at m 6;
       turn = mark_at m 10;
       decoded = number_at m 11;
-      held = if mark_at m 13 then holds (number_at m 14) (long_at m 16) else nothing_held;
+      held = if mark_at m 13 then holds (number_at m 14) (long_at m 16) else None;
       left = octet_at m 20;
       zeros = octet_at m 21;
       last = last_block_of (octet_at m 22);
@@ -150,12 +146,12 @@ receiver_octets r =
 -- ---- the sender
 
 abbrev pub line_of : ℕ → OnLine
-line_of n = if eqb n 0 then no_lane else if eqb n 1 then sending low else sending high
+line_of n = if eqb n 0 then None else if eqb n 1 then Some low else Some high
 
 abbrev pub line_octet : OnLine → ℕ
-line_octet no_lane = 0
-line_octet (sending low) = 1
-line_octet (sending high) = 2
+line_octet None = 0
+line_octet (Some low) = 1
+line_octet (Some high) = 2
 
 unfoldable pub spell_sender : List ℕ → Bool
 spell_sender m = eqb (octet_at m 0) 1 && leb (octet_at m 5) 2 && leb (octet_at m 6) 1 && leb (octet_at m 7) 1

@@ -1,15 +1,13 @@
 -- Particular octets and numbers, computed: the layout, place by place, the kinds of answers, and what is no state.
-use Rattle.std.specs.Prelude.{true, false, List, [], ◌∷◌, ◌++◌, ◌≡◌, ℕ, take, drop, replicate}
-use Rattle.plain.specs.declared.Sent.TheVariants.{Written as written, Refused as refused_send}
+use Rattle.std.specs.Prelude.{true, false, List, [], ◌∷◌, ◌++◌, ◌≡◌, ℕ, take, drop, replicate, Some, None, Ok, Err}
 use Rattle.plain.specs.ReadBack.{framing, framing_and_controls, lcp}
 use Rattle.link.specs.Marked.{bits16}
 use Rattle.link.specs.Answers.{done, octet, idle, quiet, packet, held, refused}
 use Rattle.link.specs.declared.sender.Lane.TheVariants.{Low as low, High as high}
-use Rattle.link.specs.declared.sender.OnLine.TheVariants.{Sending as sending}
-use Rattle.link.specs.declared.receiver.Fragment.TheVariants.{NothingHeld as nothing_held, Holds as holds}
 use Rattle.link.specs.declared.receiver.LastBlock.TheVariants.{BlockD0 as block_d0, OtherBlock as other_block}
 use Rattle.link.specs.declared.receiver.Mode.TheVariants.{Off as kept_off, Cobs as cobs, Plain as plain, Escaped as escape_open}
-use Rattle.link.specs.Receiver.{fresh}
+use Rattle.link.specs.Receiver.{holds, fresh}
+use Rattle.link.specs.declared.plain_sender.SendError.TheVariants.{PacketLength as wrong_length}
 use Rattle.kutarehopa.specs.Numbers.{number, sent_number}
 use Rattle.kutarehopa.specs.Calls.{reading_of, open_receiver, open_sender, open_pair, plain_send_call}
 use Rattle.kutarehopa.specs.Layout.{spell_receiver, receiver_in, receiver_octets, spell_sender, sender_octets, spell_plain_sender, plain_sender_octets}
@@ -46,7 +44,7 @@ pub record MarkedOctets : Type 0 where
     map = 0xFFFFFFFF;
     turn = false;
     decoded = 16389;
-    held = nothing_held;
+    held = None;
     left = 207;
     zeros = 2;
     last = block_d0;
@@ -56,14 +54,14 @@ pub record MarkedOctets : Type 0 where
   })
       ≡ 1 ∷ 32 ∷ 0 ∷ 0x40 ∷ 0xFF ∷ 1 ∷ 0xFF ∷ 0xFF ∷ 0xFF ∷ 0xFF ∷ 0 ∷ 5 ∷ 0x40 ∷ 0 ∷ 0 ∷ 0 ∷ 0xFF ∷ 0xFF ∷ 0xFF ∷ 0xFF ∷ 207 ∷ 2 ∷ 1 ∷ 0 ∷ 1 ∷ 10 ∷ []
   -- the mode and the map, in each mode
-  pub mode_off : take 5 (drop 5 (receiver_octets (fresh (bits16 3) kept_off 0 false nothing_held))) ≡ 0 ∷ 0 ∷ 0 ∷ 0 ∷ 0 ∷ []
-  pub mode_cobs : take 5 (drop 5 (receiver_octets (fresh (bits16 3) cobs 0x000A0000 false nothing_held))) ≡ 1 ∷ 0 ∷ 0 ∷ 0x0A ∷ 0 ∷ []
-  pub mode_plain : take 5 (drop 5 (receiver_octets (fresh (bits16 3) plain 0x04030201 false nothing_held))) ≡ 2 ∷ 1 ∷ 2 ∷ 3 ∷ 4 ∷ []
-  pub mode_escaped : take 5 (drop 5 (receiver_octets (fresh (bits16 3) escape_open 0x01020304 false nothing_held))) ≡ 3 ∷ 4 ∷ 3 ∷ 2 ∷ 1 ∷ []
+  pub mode_off : take 5 (drop 5 (receiver_octets (fresh (bits16 3) kept_off 0 false None))) ≡ 0 ∷ 0 ∷ 0 ∷ 0 ∷ 0 ∷ []
+  pub mode_cobs : take 5 (drop 5 (receiver_octets (fresh (bits16 3) cobs 0x000A0000 false None))) ≡ 1 ∷ 0 ∷ 0 ∷ 0x0A ∷ 0 ∷ []
+  pub mode_plain : take 5 (drop 5 (receiver_octets (fresh (bits16 3) plain 0x04030201 false None))) ≡ 2 ∷ 1 ∷ 2 ∷ 3 ∷ 4 ∷ []
+  pub mode_escaped : take 5 (drop 5 (receiver_octets (fresh (bits16 3) escape_open 0x01020304 false None))) ≡ 3 ∷ 4 ∷ 3 ∷ 2 ∷ 1 ∷ []
   -- and such a sender
   pub sender : sender_octets (record {
     settings = record { octet = 3; width = 32; limit = 0x0C0B };
-    on = sending high;
+    on = Some high;
     suspended = true;
     cut = false;
     low = record { length = 0x0201; position = 0x0403 };
@@ -74,7 +72,7 @@ pub record MarkedOctets : Type 0 where
       ≡ 1 ∷ 32 ∷ 0x0B ∷ 0x0C ∷ 3 ∷ 2 ∷ 1 ∷ 0 ∷ 1 ∷ 2 ∷ 3 ∷ 4 ∷ 5 ∷ 6 ∷ 7 ∷ 8 ∷ 9 ∷ 10 ∷ replicate 20 0
   pub another_sender : sender_octets (record {
     settings = record { octet = 0; width = 16; limit = 2 };
-    on = sending low;
+    on = Some low;
     suspended = false;
     cut = true;
     low = record { length = 4; position = 5 };
@@ -135,7 +133,7 @@ pub record MarkedOctets : Type 0 where
   -- and where something is it may be any
   pub any_held : spell_receiver (1 ∷ 16 ∷ (replicate 11 0 ++ (1 ∷ 0 ∷ 0 ∷ 0x34 ∷ 0x12 ∷ replicate 46 0))) ≡ true
   -- where nothing is held the count is not looked at
-  pub count_aside : (receiver_in (replicate 14 0 ++ 1 ∷ 1 ∷ replicate 48 0)).held ≡ nothing_held
+  pub count_aside : (receiver_in (replicate 14 0 ++ 1 ∷ 1 ∷ replicate 48 0)).held ≡ None
 
 pub record MarkedNumbers : Type 0 where
   pub quiet : number quiet ≡ 0
@@ -145,5 +143,5 @@ pub record MarkedNumbers : Type 0 where
   pub done : number done ≡ 0x04000000
   pub octet : number (octet 0x7E) ≡ 0x0500007E
   pub idle : number idle ≡ 0x06000000
-  pub written : sent_number (written 0x8009) ≡ 0x07008009
-  pub refused_send : sent_number (refused_send 1) ≡ 0x03000001
+  pub written : sent_number (Ok 0x8009) ≡ 0x07008009
+  pub refused_send : sent_number (Err wrong_length) ≡ 0x03000001

@@ -1,15 +1,28 @@
 -- An answer as one number of 32 bits (include/kutarehopa.h): the kind in the highest octet, a mark in bit 16, a value in the low 16 bits.
-use Rattle.std.specs.Prelude.{Bool, false, List, ◌≡◌, ℕ, ◌+◌, ◌*◌, ◌/◌, ◌%◌, ◌<◌, eqb}
+use Rattle.std.specs.Prelude.{Bool, false, List, Result, Ok, Err, ◌≡◌, ℕ, ◌+◌, ◌*◌, ◌/◌, ◌%◌, ◌<◌, eqb}
 use Rattle.std.specs.Prelude.{if◌then◌else◌}
-use Rattle.plain.specs.declared.Sent.{Sent}
-use Rattle.plain.specs.declared.Sent.TheVariants.{Written as written, Refused as refused_send}
 use Rattle.link.specs.Answers.{Answer, done, octet, idle, quiet, packet, held, refused}
 use Rattle.link.specs.Receiver.{ReceiverEnd, receive}
 use Rattle.link.specs.declared.plain_sender.PlainSender.{PlainSender}
-use Rattle.link.specs.PlainSender.{plain_send}
+use Rattle.link.specs.declared.plain_sender.SendError.{SendError}
+use Rattle.link.specs.declared.plain_sender.SendError.TheVariants.{PacketLength as wrong_length, NoRoom as no_room, OutOfBounds as out_of_bounds}
+use Rattle.link.specs.PlainSender.{send_refusal, plain_send}
+use Rattle.kutarehopa.specs.declared.answers.Kind.{Kind}
+use Rattle.kutarehopa.specs.declared.answers.Kind.TheVariants as kinds
 
 abbrev pub numbered : ℕ → Bool → ℕ → ℕ
 numbered kind mark value = 0x1000000 * kind + (if mark then 0x10000 else 0) + value
+
+-- the kinds as the code has them
+abbrev pub kind_number : Kind → ℕ
+kind_number kinds.Quiet = 0
+kind_number kinds.Packet = 1
+kind_number kinds.Held = 2
+kind_number kinds.Refused = 3
+kind_number kinds.Done = 4
+kind_number kinds.Octet = 5
+kind_number kinds.Idle = 6
+kind_number kinds.Written = 7
 
 -- the kinds, numbered from Quiet on,
 abbrev pub kind : Answer → ℕ
@@ -45,13 +58,16 @@ abbrev pub number : Answer → ℕ
 number a = numbered (kind a) (mark a) (value a)
 
 -- A plain send has answers of its own: so many octets were written, which no other call answers, or a refusal as any.
+abbrev pub Sent : Type 0
+Sent = Result ℕ SendError
+
 abbrev pub sent_kind : Sent → ℕ
-sent_kind (written n) = 7
-sent_kind (refused_send n) = 3
+sent_kind (Ok n) = 7
+sent_kind (Err e) = 3
 
 abbrev pub sent_value : Sent → ℕ
-sent_value (written n) = n
-sent_value (refused_send n) = n
+sent_value (Ok n) = n
+sent_value (Err e) = send_refusal e
 
 abbrev pub sent_number : Sent → ℕ
 sent_number a = numbered (sent_kind a) false (sent_value a)
@@ -77,8 +93,11 @@ answer_with k m v =
     else if eqb k 5 then octet v
     else idle
 
+abbrev pub send_error_with : ℕ → SendError
+send_error_with v = if eqb v 1 then wrong_length else if eqb v 2 then no_room else out_of_bounds
+
 abbrev pub sent_with : ℕ → ℕ → Sent
-sent_with k v = if eqb k 7 then written v else refused_send v
+sent_with k v = if eqb k 7 then Ok v else Err (send_error_with v)
 
 -- A number with a value of 16 bits comes apart into its kind, its mark and its value, and these tell the answer.
 pub record Apart (a : Answer) : Type 0 where
@@ -98,7 +117,7 @@ pub record SentApart (a : Sent) : Type 0 where
 pub record NumbersComeApart : Type 0 where
   pub answers : (a : Answer) → value a < 0x10000 → Apart a
   pub sends : (a : Sent) → sent_value a < 0x10000 → SentApart a
-  pub other_kinds : (a : Answer) (n : ℕ) → kind a ≡ sent_kind (written n) → ⊥
+  pub other_kinds : (a : Answer) (n : ℕ) → kind a ≡ sent_kind (Ok n) → ⊥
 
 -- Every report has such a value,
 abbrev pub ReportsHaveNumbers : Type 0

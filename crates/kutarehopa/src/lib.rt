@@ -1,18 +1,13 @@
 // The calls for C (include/kutarehopa.h, docs/CLIBRARY.md), on states that the caller keeps as 64 octets. specs/Calls.antt says what each
-// answers and leaves.
+// answers and leaves. The exported functions have the header's parameters: C hands in settings and areas one by one.
 #![tactic(auto)]
 
-ghost use Rattle.std.specs.Prelude.{◌≡◌, ◌||◌, ◌+◌, ◌*◌, ltb, length};
+ghost use Rattle.std.specs.Prelude.{◌≡◌, ◌||◌, ◌+◌, ◌≤◌, ltb, length};
 ghost use Rattle.fcs.specs.CheckSequence.{check16, check32, feed};
 ghost use Rattle.link.specs.Agreed.{agreed, largest_frame, most_decoded};
-ghost use Rattle.link.specs.Sender.{SenderEnd, load, next, seen};
-ghost use Rattle.link.specs.Receiver.{receive};
-ghost use Rattle.link.specs.PlainSender.{plain_send};
 ghost use Rattle.link.specs.declared.sender.Lane.TheVariants.{Low as low_lane, High as high_lane};
-ghost use Rattle.reader.specs.Reading.{read_on};
-ghost use Rattle.writer.specs.Writing.{write_on, onto};
-ghost use Rattle.kutarehopa.specs.Layout.{settings_in};
-ghost use Rattle.kutarehopa.specs.Calls.{no_state, reading_of, open_receiver, open_sender, open_pair, received, receive_call, read_to, read_call, loaded, load_call, sent, next_call, wrote, write_call, no_plain_sender, plain_sent, plain_send_call};
+ghost use Rattle.kutarehopa.specs.Layout.{number_at, settings_in};
+ghost use Rattle.kutarehopa.specs.Calls.{no_state, short_for_receiver, short_for_sender, reading_of, open_receiver, open_sender, open_pair, receive_call, read_call, load_call, next_call, write_call, no_plain_sender, plain_send_call};
 ghost use Rattle.kutarehopa.specs.Numbers.{NumbersComeApart, ReportsHaveNumbers, SendsHaveNumbers};
 ghost use Rattle.kutarehopa.specs.Spelling.{PackedSpellsItself, PackedAgain, LooksNowhereElse};
 ghost use Rattle.kutarehopa.specs.AsTheCalls.{OpenedIsPacked, OnPackedStates, RunsAsLink, AsPackedAgain, NoCallMade, RefusedLeavesAll, NoOctetNoChange, NoStateIsOutOfBounds, RestStays};
@@ -20,8 +15,7 @@ ghost use Rattle.kutarehopa.specs.Marked.{MarkedOctets, MarkedNumbers};
 
 use link::Settings;
 use link::plain_sender::PlainSender;
-use link::receiver::{PlainReading, Receiver};
-use link::sender::{Lane, LoadAnswer, NextAnswer, Sender};
+use link::sender::Lane;
 
 mod answers;
 mod plain_sender;
@@ -36,18 +30,12 @@ pub struct Stretch {
     pub octets: usize,
 }
 
-// A number of two octets, the low one first.
-pub(crate) fn number(low: u8, high: u8) -> u16
-    ensures { result ≡ low + 256 * high }
+// The number of two octets from octet i on, the low one first.
+pub(crate) fn number_at(state: &[u8; 64], i: usize) -> u16
+    requires { i + 2 ≤ 64 }
+    ensures { result ≡ number_at state.now i }
 {
-    low as u16 + 256 * (high as u16)
-}
-
-// And of four.
-pub(crate) fn long(first: u8, second: u8, third: u8, fourth: u8) -> u32
-    ensures { result ≡ first + 256 * second + 65536 * third + 16777216 * fourth }
-{
-    first as u32 + 256 * (second as u32) + 65536 * (third as u32) + 16777216 * (fourth as u32)
+    u16::from_le_bytes([state[i], state[i + 1]])
 }
 
 // The settings in the octets of either end.
@@ -57,51 +45,57 @@ pub(crate) fn settings_in(state: &[u8; 64]) -> Settings
     Settings {
         octet: state[4],
         width: state[1],
-        limit: number(state[2], state[3]),
+        limit: number_at(state, 2),
     }
 }
 
-// Octets that spell no state are refused.
+// Octets that spell no state are refused,
 fn no_state(settings: Settings, short: bool) -> u32
     ensures { result ≡ no_state settings short }
 {
-    if !settings.valid() {
-        return answers::refused(3);
+    if settings.valid() && short {
+        answers::refused(2)
+    } else {
+        answers::refused(3)
     }
-    if short {
-        return answers::refused(2);
-    }
-    answers::refused(3)
 }
 
-// Areas of these lengths are too short for a receiver,
-fn short_for_receiver(settings: Settings, first: usize, second: usize) -> bool
-    ensures { result ≡ (ltb first (most_decoded (agreed settings)) || ltb second (most_decoded (agreed settings))) }
+// with the areas of a receiver,
+fn no_receiver(state: &[u8; 64], first: &[u8], second: &[u8]) -> u32
+    ensures { result ≡ no_state (settings_in state.now) (short_for_receiver (settings_in state.now) first.now second.now) }
 {
-    let most = settings.most_decoded();
-    (first < most) | (second < most)
+    let settings = settings_in(state);
+    no_state(
+        settings,
+        either_short(first, second, settings.most_decoded()),
+    )
 }
 
-// and for a sender.
-fn short_for_sender(settings: Settings, low: usize, high: usize) -> bool
-    ensures { result ≡ (ltb low (largest_frame (agreed settings)) || ltb high (largest_frame (agreed settings))) }
+// and with those of a sender.
+fn no_sender(state: &[u8; 64], low: &[u8], high: &[u8]) -> u32
+    ensures { result ≡ no_state (settings_in state.now) (short_for_sender (settings_in state.now) low.now || short_for_sender (settings_in state.now) high.now) }
 {
-    let largest = settings.largest_frame();
-    (low < largest) | (high < largest)
+    let settings = settings_in(state);
+    no_state(settings, either_short(low, high, settings.largest_frame()))
+}
+
+// Whether one of two areas is too short: all that the two refusals above have in common.
+fn either_short(a: &[u8], b: &[u8], least: usize) -> bool
+    ensures { result ≡ (ltb (length a.now) least || ltb (length b.now) least) }
+{
+    a.len() < least || b.len() < least
 }
 
 // ---- the receiver
 
 // Plain reading, off or on with this map.
-fn reading(mark: u8, map: u32) -> PlainReading
+fn reading(mark: u8, map: u32) -> Option<u32>
     ensures { result ≡ reading_of mark map }
 {
-    if mark == 0 {
-        return PlainReading::Off;
-    }
-    PlainReading::On(map)
+    if mark == 0 { None } else { Some(map) }
 }
 
+#[tactic(auto, unfolding(crate::specs::Calls::open_receiver))]
 #[unsafe(no_mangle)]
 pub extern "C" fn kuta_receiver_open(
     state: &mut [u8; 64],
@@ -119,34 +113,16 @@ pub extern "C" fn kuta_receiver_open(
         width,
         limit,
     };
-    let opening = link::receiver::open(agreed, reading(plain, map));
-    match opening {
-        link::receiver::Opening::Opened(opened) => {
+    match link::receiver::open(agreed, reading(plain, map)) {
+        Ok(opened) => {
             receiver::pack(state, opened);
             answers::done()
         }
-        link::receiver::Opening::Refused(n) => answers::refused(n),
+        Err(error) => answers::refused(u8::from(error)),
     }
 }
 
-// The call, on the state that the octets spell.
-fn received(
-    state: &mut [u8; 64],
-    before: Receiver,
-    octet: u8,
-    first: &mut [u8],
-    second: &mut [u8],
-) -> u32
-    ensures { record { answer = result; state = state.exit.now; first = first.new; second = second.new }
-        ≡ received state.entry.now (receive (record { state = before; first = first.old; second = second.old }) octet) }
-{
-    let call = before.receive(octet, first, second);
-    let after = call.state;
-    let report = call.report;
-    receiver::keep(state, report, after);
-    answers::of_report(report)
-}
-
+#[tactic(auto, unfolding(crate::specs::Calls::receive_call))]
 #[unsafe(no_mangle)]
 pub extern "C" fn kuta_receive(
     state: &mut [u8; 64],
@@ -157,39 +133,15 @@ pub extern "C" fn kuta_receive(
     ensures { record { answer = result; state = state.new; first = first.new; second = second.new }
         ≡ receive_call state.old octet first.old second.old }
 {
-    if !receiver::spells(state) {
-        let settings = settings_in(state);
-        return no_state(
-            settings,
-            short_for_receiver(settings, first.len(), second.len()),
-        );
-    }
-    let before = receiver::unpack(state);
-    received(state, before, octet, first, second)
+    let Some(before) = receiver::unpack(state) else {
+        return no_receiver(state, first, second);
+    };
+    let received = before.receive(octet, first, second);
+    receiver::keep(state, received.report, received.state);
+    answers::of_report(received.report)
 }
 
-// Reading on, from the state that the octets spell.
-fn read_to(
-    state: &mut [u8; 64],
-    before: Receiver,
-    octets: &[u8],
-    first: &mut [u8],
-    second: &mut [u8],
-) -> Stretch
-    ensures { record { answer = result.answer; used = result.octets; state = state.exit.now; first = first.new; second = second.new }
-        ≡ read_to state.entry.now (read_on (record { state = before; first = first.old; second = second.old }) octets.now) }
-{
-    let reached = reader::read_on(before, octets, first, second);
-    let after = reached.state;
-    let report = reached.report;
-    let used = reached.used;
-    receiver::keep(state, report, after);
-    Stretch {
-        answer: answers::of_report(report),
-        octets: used,
-    }
-}
-
+#[tactic(auto, unfolding(crate::specs::Calls::read_call))]
 #[unsafe(no_mangle)]
 pub extern "C" fn kuta_read_on(
     state: &mut [u8; 64],
@@ -200,71 +152,63 @@ pub extern "C" fn kuta_read_on(
     ensures { record { answer = result.answer; used = result.octets; state = state.new; first = first.new; second = second.new }
         ≡ read_call state.old octets.now first.old second.old }
 {
-    if octets.len() == 0 {
+    if octets.is_empty() {
         return Stretch {
             answer: answers::quiet(),
             octets: 0,
         };
     }
-    if !receiver::spells(state) {
-        let settings = settings_in(state);
-        let answer = no_state(
-            settings,
-            short_for_receiver(settings, first.len(), second.len()),
-        );
-        return Stretch { answer, octets: 1 };
+    let Some(mut receiver) = receiver::unpack(state) else {
+        return Stretch {
+            answer: no_receiver(state, first, second),
+            octets: 1,
+        };
+    };
+    let reached = reader::read_on(&mut receiver, octets, first, second);
+    receiver::keep(state, reached.report, receiver);
+    Stretch {
+        answer: answers::of_report(reached.report),
+        octets: reached.used,
     }
-    let before = receiver::unpack(state);
-    read_to(state, before, octets, first, second)
 }
 
 // ---- the sender
 
+#[tactic(auto, unfolding(crate::specs::Calls::open_sender))]
 #[unsafe(no_mangle)]
 pub extern "C" fn kuta_sender_open(state: &mut [u8; 64], settings: u8, width: u8, limit: u16) -> u32
     ensures { record { answer = result; state = state.new } ≡ open_sender state.old (record { octet = settings; width = width; limit = limit }) }
 {
-    let opening = link::sender::open(Settings {
+    let agreed = Settings {
         octet: settings,
         width,
         limit,
-    });
-    match opening {
-        link::sender::Opening::Opened(opened) => {
+    };
+    match link::sender::open(agreed) {
+        Ok(opened) => {
             sender::pack(state, opened);
             answers::done()
         }
-        link::sender::Opening::Refused(n) => answers::refused(n),
+        Err(error) => answers::refused(u8::from(error)),
     }
 }
 
-// A load, on the state that the octets spell.
-fn loaded(state: &mut [u8; 64], before: Sender, lane: Lane, packet: &[u8], area: &mut [u8]) -> u32
-    ensures { record { answer = result; state = state.new; area = area.new }
-        ≡ loaded state.old (load lane packet.now before area.old) }
-{
-    let call = before.load(lane, packet, area);
-    let after = call.state;
-    let answer = call.answer;
-    match answer {
-        LoadAnswer::Done => {
-            sender::pack(state, after);
-            answers::done()
-        }
-        LoadAnswer::Refused(n) => answers::refused(n),
-    }
-}
-
+#[tactic(auto, unfolding(crate::specs::Calls::load_call))]
 fn load(state: &mut [u8; 64], lane: Lane, packet: &[u8], area: &mut [u8]) -> u32
     ensures { record { answer = result; state = state.new; area = area.new }
         ≡ load_call lane state.old packet.now area.old }
 {
-    if !sender::spells(state) {
+    let Some(mut sender) = sender::unpack(state) else {
         let settings = settings_in(state);
         return no_state(settings, area.len() < settings.largest_frame());
+    };
+    match sender.load(lane, packet, area) {
+        Ok(()) => {
+            sender::pack(state, sender);
+            answers::done()
+        }
+        Err(error) => answers::refused(u8::from(error)),
     }
-    let before = sender::unpack(state);
-    loaded(state, before, lane, packet, area)
 }
 
 #[unsafe(no_mangle)]
@@ -283,61 +227,22 @@ pub extern "C" fn kuta_load_high(state: &mut [u8; 64], packet: &[u8], area: &mut
     load(state, Lane::High, packet, area)
 }
 
-// Next octet, on the state that the octets spell.
-fn sent(state: &mut [u8; 64], before: Sender, low: &[u8], high: &[u8]) -> u32
-    ensures { record { answer = result; state = state.exit.now }
-        ≡ sent state.entry.now (seen (next (record { state = before; low = low.now; high = high.now }))) }
-{
-    let call = before.next_octet(low, high);
-    let after = call.state;
-    let answer = call.answer;
-    match answer {
-        NextAnswer::Octet(x) => {
-            sender::pack(state, after);
-            answers::octet(x)
-        }
-        NextAnswer::Idle => answers::idle(),
-        NextAnswer::Refused(n) => answers::refused(n),
-    }
-}
-
+#[tactic(auto, unfolding(crate::specs::Calls::next_call))]
 #[unsafe(no_mangle)]
 pub extern "C" fn kuta_next(state: &mut [u8; 64], low: &[u8], high: &[u8]) -> u32
     ensures { record { answer = result; state = state.new } ≡ next_call state.old low.now high.now }
 {
-    if !sender::spells(state) {
-        let settings = settings_in(state);
-        return no_state(settings, short_for_sender(settings, low.len(), high.len()));
+    let Some(mut sender) = sender::unpack(state) else {
+        return no_sender(state, low, high);
+    };
+    let answer = sender.next_octet(low, high);
+    if matches!(answer, Ok(Some(_))) {
+        sender::pack(state, sender);
     }
-    let before = sender::unpack(state);
-    sent(state, before, low, high)
+    answers::of_next(answer)
 }
 
-// Writing on, from the state that the octets spell.
-fn wrote(state: &mut [u8; 64], before: Sender, low: &[u8], high: &[u8], line: &mut [u8]) -> Stretch
-    ensures { (let e : SenderEnd = record { state = before; low = low.now; high = high.now } in
-        record { answer = result.answer; written = result.octets; state = state.exit.now; line = line.new }
-        ≡ wrote state.entry.now (seen (next e)).answer (onto line.old (write_on (length line.old) e))) }
-{
-    let call = writer::write_on(before, low, high, line);
-    let after = call.state;
-    let n = call.filled;
-    if n == 0 {
-        let first = before.next_octet(low, high);
-        let answer = first.answer;
-        return Stretch {
-            answer: answers::of_next(answer),
-            octets: 0,
-        };
-    }
-    sender::pack(state, after);
-    let last = line[n - 1];
-    Stretch {
-        answer: answers::octet(last),
-        octets: n,
-    }
-}
-
+#[tactic(auto, unfolding(crate::specs::Calls::write_call))]
 #[unsafe(no_mangle)]
 pub extern "C" fn kuta_write_on(
     state: &mut [u8; 64],
@@ -348,24 +253,38 @@ pub extern "C" fn kuta_write_on(
     ensures { record { answer = result.answer; written = result.octets; state = state.new; line = line.new }
         ≡ write_call state.old low.now high.now line.old }
 {
-    if line.len() == 0 {
+    if line.is_empty() {
         return Stretch {
             answer: answers::quiet(),
             octets: 0,
         };
     }
-    if !sender::spells(state) {
-        let settings = settings_in(state);
-        let answer = no_state(settings, short_for_sender(settings, low.len(), high.len()));
-        return Stretch { answer, octets: 0 };
+    let Some(mut before) = sender::unpack(state) else {
+        return Stretch {
+            answer: no_sender(state, low, high),
+            octets: 0,
+        };
+    };
+    let mut after = before;
+    let filled = writer::write_on(&mut after, low, high, line);
+    if filled == 0 {
+        let first = before.next_octet(low, high);
+        return Stretch {
+            answer: answers::of_next(first),
+            octets: 0,
+        };
     }
-    let before = sender::unpack(state);
-    wrote(state, before, low, high, line)
+    sender::pack(state, after);
+    Stretch {
+        answer: answers::octet(line[filled - 1]),
+        octets: filled,
+    }
 }
 
 // ---- plain PPP
 
 // A plain sender and a receiver that reads what it writes.
+#[tactic(auto, unfolding(crate::specs::Calls::open_pair))]
 #[unsafe(no_mangle)]
 pub extern "C" fn kuta_pair_open(
     sender: &mut [u8; 64],
@@ -385,19 +304,18 @@ pub extern "C" fn kuta_pair_open(
         limit,
     };
     let pair = link::plain_sender::open_pair(agreed, map, *marks);
-    let sends = pair.sender;
-    let reads = pair.receiver;
-    match reads {
-        link::receiver::Opening::Opened(opened) => {
-            plain_sender::pack(sender, sends);
+    match pair.receiver {
+        Ok(opened) => {
+            plain_sender::pack(sender, pair.sender);
             receiver::pack(receiver, opened);
             answers::done()
         }
-        link::receiver::Opening::Refused(k) => answers::refused(k),
+        Err(error) => answers::refused(u8::from(error)),
     }
 }
 
-// Octets that spell no plain sender are refused.
+// Octets that spell no plain sender are refused. The width is known at run time alone.
+#[tactic(auto, unfolding(link::specs::Agreed::agreed))]
 fn no_plain_sender(state: PlainSender, packet: &[u8], room: usize) -> u32
     ensures { result ≡ no_plain_sender state packet.now room }
 {
@@ -406,20 +324,15 @@ fn no_plain_sender(state: PlainSender, packet: &[u8], room: usize) -> u32
         width: state.width,
         limit: state.limit,
     };
-    let marks = state.marks;
-    no_state(
-        settings,
-        plain::too_long(packet, state.width == 32, &marks, room),
-    )
+    let too_long = if state.width == 32 {
+        plain::too_long::<u32>(packet, &state.marks, room)
+    } else {
+        plain::too_long::<u16>(packet, &state.marks, room)
+    };
+    no_state(settings, too_long)
 }
 
-// A plain send, on the state that the octets spell.
-fn plain_sent(state: PlainSender, packet: &[u8], area: &mut [u8]) -> u32
-    ensures { record { answer = result; area = area.new } ≡ plain_sent (plain_send state packet.now area.old) }
-{
-    answers::of_sent(state.send(packet, area))
-}
-
+#[tactic(auto, unfolding(crate::specs::Calls::plain_send_call))]
 #[unsafe(no_mangle)]
 pub extern "C" fn kuta_plain_send(sender: &[u8; 64], packet: &[u8], area: &mut [u8]) -> u32
     ensures { record { answer = result; area = area.new }
@@ -429,7 +342,7 @@ pub extern "C" fn kuta_plain_send(sender: &[u8; 64], packet: &[u8], area: &mut [
     if !plain_sender::spells(sender) {
         return no_plain_sender(state, packet, area.len());
     }
-    plain_sent(state, packet, area)
+    answers::of_sent(state.send(packet, area))
 }
 
 // ---- the check sequence

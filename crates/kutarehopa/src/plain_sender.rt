@@ -1,4 +1,6 @@
 // The plain sender's state in octets (specs/Layout.antt).
+#![tactic(auto, unfolding(crate::specs::Layout::spell_plain_sender, crate::specs::Layout::plain_sender_in, crate::specs::Layout::plain_sender_octets))]
+
 ghost use Rattle.std.specs.Prelude.{◌≡◌};
 ghost use Rattle.kutarehopa.specs.Layout.{octets_from, spell_plain_sender, plain_sender_in, plain_sender_octets, over};
 
@@ -8,16 +10,12 @@ use link::plain_sender::PlainSender;
 fn marks_in(state: &[u8; 64]) -> [u8; 32]
     ensures { result ≡ octets_from state.now 4 32 }
 {
-    let mut marks = [0u8; 32];
-    let mut i = 0;
-    while i < 32 {
-        marks[i] = state[4 + i];
-        i += 1;
-    }
+    let mut marks = [0; 32];
+    marks.copy_from_slice(&state[4..36]);
     marks
 }
 
-// Whether octets spell a state.
+// Whether octets spell a state. A test of its own, and no Option as in unpack of the others: a refusal looks at the state too.
 pub(crate) fn spells(state: &[u8; 64]) -> bool
     ensures { result ≡ spell_plain_sender state.now }
 {
@@ -30,7 +28,7 @@ pub(crate) fn unpack(state: &[u8; 64]) -> PlainSender
 {
     PlainSender {
         width: state[1],
-        limit: crate::number(state[2], state[3]),
+        limit: crate::number_at(state, 2),
         marks: marks_in(state),
     }
 }
@@ -39,17 +37,7 @@ pub(crate) fn unpack(state: &[u8; 64]) -> PlainSender
 pub(crate) fn pack(state: &mut [u8; 64], s: PlainSender)
     ensures { state.new ≡ over (plain_sender_octets s) state.old }
 {
-    // as slices they show their length to the proof
-    let _whole: &[u8] = state;
-    let marks = s.marks;
-    let _all: &[u8] = &marks;
-    state[0] = 1;
-    state[1] = s.width;
-    state[2] = (s.limit % 256) as u8;
-    state[3] = (s.limit / 256) as u8;
-    let mut i = 0;
-    while i < 32 {
-        state[4 + i] = marks[i];
-        i += 1;
-    }
+    let limit = s.limit.to_le_bytes();
+    state[..4].copy_from_slice(&[1, s.width, limit[0], limit[1]]);
+    state[4..36].copy_from_slice(&s.marks);
 }

@@ -1,27 +1,22 @@
 -- Text appended to a page.
 use mathlib.Core.Path.{◌≡◌, refl, sym, ap, ◌∙◌}
-use mathlib.Core.List.{List, [], ◌∷◌, ◌++◌, append_assoc}
-use Prim.Native.Nat.{ℕ, suc, ◌+◌, ◌-◌, ◌≤◌, ◌<◌}
+use mathlib.Core.List.{List, [], ◌++◌, append_assoc}
+use Prim.Native.Nat.{ℕ, ◌+◌, ◌-◌, ◌≤◌, ◌<◌}
 use native.Mathlib.Nat.{add-zero}
 use native.Mathlib.Omega.{arith}
 use borrow.Author.Tests.{le-leb, lt-leb, leb-true, leb-false}
 use lib.Dec.{leb}
-use lib.ListN.{length, set, length-append, length-set}
-use lib.Seq.{sets, sets-eq, length-sets}
+use lib.ListN.{length, take, drop, length-append, length-take}
 use Rattle.cobs.proofs.Tests.{branch, decide}
 use Rattle.link.specs.Receiver.{write}
-use Rattle.link.proofs.Write.{length-write}
+use Rattle.link.proofs.Write.{length-write, take-write}
+use Rattle.std.proofs.lemmas.List.{append-nil, drop-drop, take-append-drop}
+use Rattle.std.proofs.lemmas.Slice.{drop-append-drop}
+use borrow.Rule.Slice.PartMut.{put_mid}
 use Rattle.lines.specs.Lines.{Page, append}
-use Rattle.lines.proofs.Stored.{sets-append}
 
 module _ (a : List ℕ) (f : ℕ) (xs : List ℕ) where
-  -- where it fits, its octets are stored one by one
-  pub stored : f + length xs ≤ length a
-      → ◌≡◌ {A = Page} (record { area = sets a f xs; filled = f + length xs }) (append (record { area = a; filled = f }) xs)
-  unfolding append
-  stored h = rw (le-leb _ _ h, sets-eq xs a f h)
-
-  -- and are written together,
+  -- where it fits, its octets are written,
   pub written : f + length xs ≤ length a → append (record { area = a; filled = f }) xs ≡ record { area = write a f xs; filled = f + length xs }
   unfolding append
   written h = rw (le-leb _ _ h)
@@ -37,25 +32,21 @@ append-none p =
     let a = p.area in
     let f = p.filled in
     decide (leb (f + 0) (length a))
-    (λ e. rw (add-zero f) at (stored a f [] (leb-true _ _ e)))
+    (λ e. sym (written a f [] (leb-true _ _ e) ∙ rw (add-zero f, append-nil (take f a), take-append-drop f a)))
     (λ e. no_room a f [] (leb-false _ _ e))
 
--- where there is room, which for no text there always is
-pub with-room : (a : List ℕ) (f : ℕ) (xs : List ℕ) → length xs ≤ length a - f
-    → ◌≡◌ {A = Page} (record { area = sets a f xs; filled = f + length xs }) (append (record { area = a; filled = f }) xs)
-with-room a f [] h = rw (add-zero f) (append-none (record { area = a; filled = f }))
-with-room a f (x ∷ xs) h = stored a f (x ∷ xs) (omega arith)
+-- the part of an area where it fits, written as a whole
+pub put-in : (a : List ℕ) (f k : ℕ) (xs ys : List ℕ) → ys ≡ xs → k ≡ length xs → f + k ≤ length a
+    → ◌≡◌ {A = Page} (record { area = put_mid f (f + k - f) a ys; filled = f + k }) (append (record { area = a; filled = f }) xs)
+put-in a f k xs ys e n h =
+    let m : f + (f + length xs - f) ≡ f + length xs = omega arith in
+    rw (e, n, drop-drop (f + length xs - f) f a, m, ← append_assoc (take f a) xs (drop (f + length xs) a)) (sym (written a f xs (omega arith)))
 
--- two octets stored, and text after them
-pub two-before : (a : List ℕ) (f x y : ℕ) (xs : List ℕ) (q : Page) → f + 2 + length xs ≤ length a
-    → q ≡ append (record { area = set (set a f x) (f + 1) y; filled = f + 2 }) xs → q ≡ append (record { area = a; filled = f }) (x ∷ y ∷ xs)
-two-before a f x y xs q h e =
-    let b = set (set a f x) (f + 1) y in
-    let k : f + 2 + length xs ≤ length b = simp length-set h in
-    let one : f + 1 ≡ suc f = omega arith in
-    let two : f + 2 ≡ suc (suc f) = omega arith in
-    let all : f + 2 + length xs ≡ f + suc (suc (length xs)) = omega arith in
-    e ∙ sym (stored b (f + 2) xs k) ∙ rw (all, one, two) (stored a f (x ∷ y ∷ xs) (omega arith))
+-- where text fits, so does behind it what fits with it
+pub fits-behind : (p q : Page) (xs : List ℕ) (k : ℕ) → q ≡ append p xs → p.filled + length xs + k ≤ length p.area → q.filled + k ≤ length q.area
+fits-behind p q xs k e h =
+    let room : p.filled + length xs ≤ length p.area = omega arith in
+    rw (e ∙ written p.area p.filled xs room, length-write p.area p.filled xs room) h
 
 -- two texts after each other are one
 pub append-append : (p : Page) (xs ys : List ℕ) → p.filled + length xs + length ys ≤ length p.area
@@ -65,11 +56,13 @@ append-append p xs ys h =
     let f = p.filled in
     let k : f + length xs ≤ length a = omega arith in
     let m : f + length (xs ++ ys) ≤ length a = rw (length-append xs ys) (omega arith) in
-    let o : f + length xs + length ys ≤ length (sets a f xs) = rw (length-sets a f xs) h in
-    let e : f + length xs + length ys ≡ f + length (xs ++ ys) = omega (arith, length-append xs ys) in
-    ap (λ q. append q ys) (sym (stored a f xs k))
-    ∙ sym (stored (sets a f xs) (f + length xs) ys o)
-    ∙ rw (e, sets-append xs ys a f) (stored a f (xs ++ ys) m)
+    let o : f + length xs + length ys ≤ length (write a f xs) = rw (length-write a f xs k) h in
+    let e : f + length (xs ++ ys) ≡ f + length xs + length ys = omega (arith, length-append xs ys) in
+    let begun : length (take f a ++ xs) ≡ f + length xs = simp (length-append, length-take) (omega arith) in
+    let rest = drop-append-drop (f + length xs) a (take f a ++ xs) (f + length xs + length ys) (omega arith) begun in
+    ap (λ q. append q ys) (written a f xs k)
+    ∙ written (write a f xs) (f + length xs) ys o
+    ∙ rw (take-write a f xs k, rest, append_assoc (take f a) xs ys, ← e) (sym (written a f (xs ++ ys) m))
 
 -- what two calls after each other make of a page, and three
 pub append-two : (p q r : Page) (xs ys : List ℕ) → q ≡ append p xs → r ≡ append q ys

@@ -1,16 +1,14 @@
 -- The decimal digits of a number.
 use mathlib.Core.Path.{◌≡◌, refl, ◌∙◌}
-use mathlib.Core.List.{List, [], ◌∷◌, ◌++◌}
+use mathlib.Core.List.{[], ◌∷◌, ◌++◌}
 use Prim.Native.Nat.{ℕ, zero, suc, ◌+◌, ◌/◌, ◌%◌, ◌^◌, ◌≤◌, ◌<◌}
 use native.Mathlib.Nat.{pow-suc}
 use native.Mathlib.Omega.{arith}
 use borrow.Author.Tests.{lt-ltb, le-ltb, ltb-true, ltb-false}
 use lib.Dec.{ltb}
-use lib.ListN.{length, length-append, set}
-use lib.Seq.{sets}
+use lib.ListN.{length, length-append}
 use Rattle.cobs.proofs.Tests.{decide}
-use Rattle.lines.specs.Lines.{digit, decimal_in, decimal, DecimalStep}
-use Rattle.lines.proofs.Stored.{sets_last}
+use Rattle.lines.specs.Lines.{decimal_in, decimal, DecimalStep}
 
 -- steps that are enough give the same digits
 enough : (s t n : ℕ) → n < s → n < t → decimal_in s n ≡ decimal_in t n
@@ -28,11 +26,9 @@ decimal_step n =
     let ten : 10 ≤ n = ltb-false _ _ e in rw (e, enough n (suc (n / 10)) (n / 10) (omega arith) (omega arith)))
 
 pub decimal-one : (n : ℕ) → n < 10 → decimal n ≡ (0x30 + n) ∷ []
-unfolding digit
 decimal-one n h = decimal_step n ∙ rw (lt-ltb _ _ h)
 
 pub decimal-more : (n : ℕ) → 10 ≤ n → decimal n ≡ decimal (n / 10) ++ ((0x30 + n % 10) ∷ [])
-unfolding digit
 decimal-more n h =
     let k : n % 10 < 10 = omega arith in decimal_step n ∙ rw (le-ltb _ _ h, lt-ltb _ _ k)
 
@@ -57,17 +53,3 @@ count_most (suc k) n h =
     (λ e.
     let p = pow-suc 10 (suc k) in
     omega (arith, count-more n (ltb-false _ _ e), count_most k (n / 10) (omega arith)))
-
--- the last digit stored first
-pub last_stored : (page : List ℕ) (filled at n : ℕ) → 10 ≤ n → at + 1 ≡ filled + length (decimal n)
-    → sets page filled (decimal n) ≡ sets (set page at (0x30 + n % 10)) filled (decimal (n / 10))
-last_stored page filled at n h e =
-    let p : at ≡ filled + length (decimal (n / 10)) = omega (arith, count-more n h) in
-    rw (decimal-more n h, p) (sets_last (decimal (n / 10)) page filled (0x30 + n % 10))
-
--- and the first one
-pub first-stored : (page : List ℕ) (filled at n : ℕ) → n < 10 → at + 1 ≡ filled + length (decimal n)
-    → sets page filled (decimal n) ≡ set page at (0x30 + n)
-first-stored page filled at n h e =
-    let p : at ≡ filled = omega (arith, count-one n h) in
-    rw (decimal-one n h, p)

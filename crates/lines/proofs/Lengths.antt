@@ -7,6 +7,7 @@ use native.Mathlib.Omega.{arith}
 use lib.ListN.{length, length-append}
 use Rattle.link.specs.Answers.{done, octet, idle, quiet, packet, held, refused}
 use Rattle.lines.specs.Lines.{space, line_feed, decimal, hex_octets, text_line, packet_line, report_line, ReportMost}
+use Rattle.lines.specs.Pages.{line_of}
 use Rattle.lines.proofs.DecimalDigits.{count_most}
 use Rattle.lines.proofs.Hexadecimal.{octets-length}
 
@@ -17,6 +18,9 @@ pub packet-length : (n : ℕ) (shown : List ℕ) → length (packet_line n shown
 packet-length n shown =
     let rest = hex_octets shown ++ (line_feed ∷ []) in
     omega (arith, line-length 0x50 n rest, length-append (hex_octets shown) (line_feed ∷ []), octets-length shown)
+
+pub line_of-length : (letter n : ℕ) (list rest : List ℕ) → length (line_of letter n list rest) ≡ length (decimal n) + 3 * length list + length rest + 2
+line_of-length letter n list rest = omega (arith, line-length letter n (hex_octets list ++ rest), length-append (hex_octets list) rest, octets-length list)
 
 pub report-most : ReportMost
 unfolding report_line

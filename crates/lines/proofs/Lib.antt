@@ -1,7 +1,7 @@
--- Laws: octets stored one by one, text appended to a page, decimal digits, octets shown, the length of a line, and the line of each kind of report.
-pub mod Stored
+-- Laws: text appended to a page, decimal digits, octets shown, the length of a line, and the line of each kind of report.
 pub mod Append
 pub mod DecimalDigits
+pub mod DigitsWritten
 pub mod Hexadecimal
 pub mod Lengths
 pub mod Reports

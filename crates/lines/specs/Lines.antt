@@ -28,7 +28,7 @@ abbrev pub line_feed : ℕ
 line_feed = 0x0A
 
 -- a digit 0 to 9, or A to F for 10 to 15
-unfoldable pub digit : ℕ → ℕ
+abbrev pub digit : ℕ → ℕ
 digit n = if ltb n 10 then 0x30 + n else 0x41 + (n - 10)
 
 -- an octet as two hexadecimal capitals

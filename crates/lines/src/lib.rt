@@ -1,35 +1,118 @@
-// The text of what is reported, written into a lent page (document 01, "Display, tally, capture program"). `filled` says how many octets of
-// the page, from its start, are filled; each call hands the new count back. Text that does not fit whole leaves page and count as they are.
+// The text of what is reported, written onto a lent page (document 01, "Display, tally, capture program"). Text that does not fit whole
+// leaves the page as it is.
 #![tactic(auto)]
 
-ghost use Rattle.std.specs.Prelude.{◌≡◌, ◌∷◌, ◌+◌, ◌-◌, ◌<◌, ◌≤◌, length};
+ghost use Rattle.std.specs.Prelude.{◌≡◌, ◌*◌, ◌+◌, ◌<◌, ◌≤◌, ◌↔◌, length, take, IsTrue};
 ghost use Rattle.link.specs.Answers.{report_answer};
-ghost use Rattle.lines.specs.Lines.{append, space, digit, hex_octets, decimal, text_line, packet_line, report_line, DecimalStep, ReportMost};
+ghost use Rattle.lines.specs.Lines.{append, digit, hex_octets, decimal, report_line, DecimalStep, ReportMost};
+ghost use Rattle.lines.specs.Pages.{page_of, line_of};
 ghost use Rattle.lines.specs.Marked.{MarkedLines};
 
 use link::receiver::Report;
 
-// How many octets of a page of that size are not filled.
-fn room(size: usize, filled: usize) -> usize
-    ensures { result ≡ size - filled }
-{
-    if filled < size { size - filled } else { 0 }
+// A lent page: its octets, and how many of them, from its start, are filled. Each method says too that the area is still the same one, as the
+// borrow checker asks where a `&mut` lies in a struct.
+#[derive(Drop)]
+pub struct Page<'a> {
+    pub area: &'a mut [u8],
+    pub filled: usize,
 }
 
-// The octets of `words`, as they are.
-pub fn text(words: &[u8], page: &mut [u8], filled: usize) -> usize
-    ensures { record { area = page.new; filled = result }
-        ≡ append (record { area = page.old; filled = filled }) words.now }
-{
-    if room(page.len(), filled) < words.len() {
-        return filled;
+impl Page<'_> {
+    // Whether so many octets more fit. What is written asks this, fills a part, and counts it, each in its own way: a closure would say no more.
+    fn fits(&self, octets: usize) -> bool
+        ensures { IsTrue result ↔ (self.now.filled + octets ≤ length self.now.area.now) }
+    {
+        self.filled.saturating_add(octets) <= self.area.len()
     }
-    let mut i = 0;
-    while i < words.len() {
-        page[filled + i] = words[i];
-        i += 1;
+
+    // What is filled of the page.
+    pub fn written(&self) -> &[u8]
+        ensures { result.now ≡ take self.now.filled self.now.area.now }
+    {
+        &self.area[..self.filled.min(self.area.len())]
     }
-    filled + i
+
+    // The octets of `words`, as they are.
+    pub fn text(&mut self, words: &[u8])
+        ensures same_area { self.new.area.ghost_name ≡ self.old.area.ghost_name }
+        ensures appended { page_of self.new ≡ append (page_of self.old) words.now }
+    {
+        if self.fits(words.len()) {
+            let end = self.filled + words.len();
+            self.area[self.filled..end].copy_from_slice(words);
+            self.filled = end;
+        }
+    }
+
+    // A space and two hexadecimal capitals for each octet of the list.
+    pub fn octets(&mut self, list: &[u8])
+        ensures same_area { self.new.area.ghost_name ≡ self.old.area.ghost_name }
+        ensures appended { page_of self.new ≡ append (page_of self.old) (hex_octets list.now) }
+    {
+        if self.fits(list.len().saturating_mul(3)) {
+            let end = self.filled + 3 * list.len();
+            write_octets(list, &mut self.area[self.filled..end]);
+            self.filled = end;
+        }
+    }
+
+    // The decimal digits of n.
+    pub fn decimal(&mut self, n: u64)
+        ensures same_area { self.new.area.ghost_name ≡ self.old.area.ghost_name }
+        ensures appended { page_of self.new ≡ append (page_of self.old) (decimal n) }
+    {
+        let count = digits(n);
+        if self.fits(count) {
+            self.number(n, count);
+        }
+    }
+
+    // The same where they fit; there are `count` of them.
+    fn number(&mut self, n: u64, count: usize)
+        requires digits { count ≡ length (decimal n) }
+        requires room { self.old.filled + count ≤ length self.old.area.now }
+        ensures same_area { self.new.area.ghost_name ≡ self.old.area.ghost_name }
+        ensures appended { page_of self.new ≡ append (page_of self.old) (decimal n) }
+    {
+        let end = self.filled + count;
+        write_digits(n, &mut self.area[self.filled..end]);
+        self.filled = end;
+    }
+
+    // A line of a letter, a number, a list in hexadecimal, and the rest, its end included. Written out at each call, which takes fewer
+    // instructions (135 million in place of 143 for 800,000 lines).
+    #[inline(always)]
+    fn line(&mut self, letter: u8, n: u64, list: &[u8], rest: &[u8])
+        ensures same_area { self.new.area.ghost_name ≡ self.old.area.ghost_name }
+        ensures appended { page_of self.new ≡ append (page_of self.old) (line_of letter n list.now rest.now) }
+    {
+        let count = digits(n);
+        let others = 2 + count + rest.len();
+        if self.fits(list.len().saturating_mul(3).saturating_add(others)) {
+            self.text(&[letter, b' ']);
+            self.number(n, count);
+            self.octets(list);
+            self.text(rest);
+        }
+    }
+
+    // The line for a report: the whole of it, or nothing. shown: the octets of its packet.
+    pub fn report(&mut self, report: Report, shown: &[u8])
+        ensures same_area { self.new.area.ghost_name ≡ self.old.area.ghost_name }
+        ensures appended { page_of self.new
+            ≡ append (page_of self.old) (report_line (report_answer report) shown.now) }
+    {
+        match report {
+            Report::Quiet => {}
+            Report::Packet { length, .. } => self.line(b'P', length as u64, shown, b"\n"),
+            Report::Held { count, replaced } => {
+                let mark = if replaced { b'1' } else { b'0' };
+                self.line(b'H', count as u64, &[], &[b' ', mark, b'\n']);
+            }
+            Report::Refused(n) => self.line(b'R', n as u64, &[], b"\n"),
+        }
+    }
 }
 
 fn hex_digit(n: u8) -> u8
@@ -39,129 +122,39 @@ fn hex_digit(n: u8) -> u8
     if n < 10 { b'0' + n } else { b'A' + (n - 10) }
 }
 
-// A space and two hexadecimal capitals for each octet of the list.
-pub fn octets(list: &[u8], page: &mut [u8], filled: usize) -> usize
-    ensures { record { area = page.new; filled = result }
-        ≡ append (record { area = page.old; filled = filled }) (hex_octets list.now) }
+// The octets of the list in hexadecimal, each with a space before it, over an area of their length. Places and no `chunks_exact_mut`, after
+// which a proof no longer knows the area's octets. Not written out at its call, where the compiler no longer sees that list and area are apart,
+// and an octet of a capture takes 34.1 instead of 14.8 instructions.
+#[inline(never)]
+fn write_octets(list: &[u8], area: &mut [u8])
+    requires { length area.old ≡ 3 * length list.now }
+    ensures { area.new ≡ hex_octets list.now }
 {
-    if room(page.len(), filled) / 3 < list.len() {
-        return filled;
+    for (i, octet) in list.iter().enumerate() {
+        area[3 * i] = b' ';
+        area[3 * i + 1] = hex_digit(octet / 16);
+        area[3 * i + 2] = hex_digit(octet % 16);
     }
-    let mut at = filled;
-    let mut i = 0;
-    while i < list.len() {
-        let octet = list[i];
-        page[at] = b' ';
-        page[at + 1] = hex_digit(octet / 16);
-        page[at + 2] = hex_digit(octet % 16);
-        at += 3;
-        i += 1;
-    }
-    at
 }
 
 // How many decimal digits n has.
 fn digits(n: u64) -> usize
-    ensures { result ≡ length (decimal n) }
+    ensures count { result ≡ length (decimal n) }
+    ensures most { result ≤ 20 }
+{
+    n.checked_ilog10().unwrap_or(0) as usize + 1
+}
+
+// The decimal digits of n, over an area of their length, from the last to the first. A loop and no `write!`, whose contract does not say when
+// it fails.
+fn write_digits(n: u64, area: &mut [u8])
+    requires { length area.old ≡ length (decimal n) }
+    ensures { area.new ≡ decimal n }
 {
     let mut rest = n;
-    let mut count = 1;
-    while 10 <= rest {
+    for i in (0..area.len()).rev() {
+        area[i] = b'0' + (rest % 10) as u8;
         rest /= 10;
-        count += 1;
-    }
-    count
-}
-
-// The decimal digits of n, of which there are `count`, from the last to the first.
-fn write_digits(n: u64, count: usize, page: &mut [u8], filled: usize) -> usize
-    requires { (count ≡ length (decimal n)) × (filled + count ≤ length page.old) }
-    ensures { record { area = page.new; filled = result }
-        ≡ append (record { area = page.old; filled = filled }) (decimal n) }
-{
-    let mut rest = n;
-    let mut at = filled + count - 1;
-    while 10 <= rest {
-        page[at] = b'0' + (rest % 10) as u8;
-        rest /= 10;
-        at -= 1;
-    }
-    page[at] = b'0' + rest as u8;
-    filled + count
-}
-
-// The decimal digits of n.
-pub fn decimal(n: u64, page: &mut [u8], filled: usize) -> usize
-    ensures { record { area = page.new; filled = result }
-        ≡ append (record { area = page.old; filled = filled }) (decimal n) }
-{
-    let count = digits(n);
-    if room(page.len(), filled) < count {
-        return filled;
-    }
-    write_digits(n, count, page, filled)
-}
-
-// A line's letter and number; the number has `count` digits.
-fn head(letter: u8, n: u64, count: usize, page: &mut [u8], filled: usize) -> usize
-    requires { (count ≡ length (decimal n)) × (filled + 2 + count ≤ length page.old) }
-    ensures { record { area = page.new; filled = result }
-        ≡ append (record { area = page.old; filled = filled }) (letter ∷ space ∷ decimal n) }
-{
-    page[filled] = letter;
-    page[filled + 1] = b' ';
-    write_digits(n, count, page, filled + 2)
-}
-
-// A line of a letter, a number and the rest, its end included.
-fn line(letter: u8, n: u64, rest: &[u8], page: &mut [u8], filled: usize) -> usize
-    ensures { record { area = page.new; filled = result }
-        ≡ append (record { area = page.old; filled = filled }) (text_line letter n rest.now) }
-{
-    let count = digits(n);
-    let free = room(page.len(), filled);
-    if free < count + 2 {
-        return filled;
-    }
-    if free - (count + 2) < rest.len() {
-        return filled;
-    }
-    let begun = head(letter, n, count, page, filled);
-    text(rest, page, begun)
-}
-
-// The line of a packet: its length n, and the octets of the list in hexadecimal.
-fn packet_line(n: u64, list: &[u8], page: &mut [u8], filled: usize) -> usize
-    ensures { record { area = page.new; filled = result }
-        ≡ append (record { area = page.old; filled = filled }) (packet_line n list.now) }
-{
-    let count = digits(n);
-    let free = room(page.len(), filled);
-    if free < count + 3 {
-        return filled;
-    }
-    if (free - (count + 3)) / 3 < list.len() {
-        return filled;
-    }
-    let begun = head(b'P', n, count, page, filled);
-    let shown = octets(list, page, begun);
-    text(b"\n", page, shown)
-}
-
-// The line for a report: the whole of it, or nothing. shown: the octets of its packet.
-pub fn report(given: Report, shown: &[u8], page: &mut [u8], filled: usize) -> usize
-    ensures { record { area = page.new; filled = result }
-        ≡ append (record { area = page.old; filled = filled }) (report_line (report_answer given) shown.now) }
-{
-    match given {
-        Report::Quiet => filled,
-        Report::Packet { second, length } => packet_line(length as u64, shown, page, filled),
-        Report::Held { count, replaced } => {
-            let mark = if replaced { b'1' } else { b'0' };
-            let rest = [b' ', mark, b'\n'];
-            line(b'H', count as u64, &rest, page, filled)
-        }
-        Report::Refused(n) => line(b'R', n as u64, b"\n", page, filled),
     }
 }
 

@@ -9,17 +9,17 @@ use borrow.Author.Tests.{ltb-false}
 use lib.Dec.{ltb, eqb}
 use lib.ListN.{length, take, replicate}
 use lib.Seq.{take-take}
+use Rattle.std.specs.Prelude.{Some, None, Ok, Err}
 use Rattle.fcs.specs.CheckSequence.{register, good}
-use Rattle.cobs.specs.CodeBlocks.{flag, from_line, meaning}
-use Rattle.cobs.specs.declared.Meaning.{Meaning}
-use Rattle.cobs.specs.declared.Meaning.TheVariants.{InTable, NotAgreed, NoCode}
+use Rattle.cobs.specs.CodeBlocks.{flag, from_line, meaning, Meaning}
+use Rattle.cobs.specs.declared.CodeError.TheVariants.{NotAgreed, NoCode}
 use Rattle.cobs.proofs.Tests.{branch, decide}
 use Rattle.plain.specs.declared.Taken.{Taken}
 use Rattle.plain.specs.declared.Taken.TheVariants.{Removed, Escape, Data}
 use Rattle.plain.specs.Stuffing.{taken}
 use Rattle.link.specs.Agreed.{Agreed, agreed, least_frame, largest_frame, most_decoded, valid}
 use Rattle.link.specs.Answers.{Answer, done, octet, idle, quiet, packet, held, refused}
-use Rattle.link.specs.Receiver.{Fragment, nothing_held, holds, plain, Receiver, Working, ReceiverEnd, Receive, Ended, with_due, step2_begin_block, is_no_block, is_d0, is_plain, is_escaped, in_bounds, step4_remember, step4_refuse, step3_write, step3_decode, step3_data, last_block, step2_by_meaning, step2_code, let_go, step1_resume_held, step1_d1, step1_first_octet, steps_1_to_4, step5_end, step5_hold, step5_without_phantom, step5_flag, at_flag, in_plain_frame, plain_data, plain_taken, plain_octet, plain_flag, at_plain_flag, begins_plain, begin_plain, area_of, work, aside, put_back, flagged, quietly, receive}
+use Rattle.link.specs.Receiver.{Held, plain, Receiver, Working, ReceiverEnd, Receive, Ended, with_due, step2_begin_block, is_no_block, is_d0, is_plain, is_escaped, in_bounds, step4_remember, step4_refuse, step3_write, step3_decode, step3_data, last_block, step2_by_meaning, step2_code, let_go, step1_resume_held, step1_d1, step1_first_octet, steps_1_to_4, step5_end, step5_hold, step5_without_phantom, step5_flag, at_flag, in_plain_frame, plain_data, plain_taken, plain_octet, plain_flag, at_plain_flag, begins_plain, begin_plain, area_of, work, aside, put_back, flagged, quietly, receive}
 use Rattle.link.specs.ReceiverParts.{ReceiverReady}
 use Rattle.link.specs.Runs.{receives, stands_for}
 use Rattle.link.specs.Demands.{held_octets, Alike, AreasLongEnough, report_and_packet, AreasAside}
@@ -51,8 +51,8 @@ record Stays (s : Receiver) (w v : Working) : Type 0 where
   decoded : take w.state.decoded v.area ≡ take w.state.decoded w.area
 
 -- with what is held as it was
-as-held : (h k : Fragment) → k ≡ h → (a b : List ℕ) → held_octets h b ≡ held_octets h a → held_octets k b ≡ held_octets k a
-as-held h k e a b q = subst (λ (i : Fragment). held_octets i b ≡ held_octets i a) (sym e) q
+as-held : (h k : Held) → k ≡ h → (a b : List ℕ) → held_octets h b ≡ held_octets h a → held_octets k b ≡ held_octets k a
+as-held h k e a b q = subst (λ (i : Held). held_octets i b ≡ held_octets i a) (sym e) q
 
 module _ (g : Agreed) (s : Receiver) (a b : List ℕ) (la : most_decoded g ≤ length a) (lb : most_decoded g ≤ length b)
     (eq : take s.decoded b ≡ take s.decoded a) (deep : s.decoded ≤ most_decoded g) where
@@ -86,11 +86,13 @@ module _ (g : Agreed) (s : Receiver) (a b : List ℕ) (la : most_decoded g ≤ l
 
   meaning-stays : (c : ℕ) (m : Meaning) → Stays s (step2_by_meaning g (at s a) c m) (step2_by_meaning g (at s b) c m)
   unfolding step2_by_meaning
-  meaning-stays c (InTable n z) =
+  meaning-stays c (Ok row) =
+      let n = row.nonzeros in
+      let z = row.zeros in
       branch₂ (Stays s) (eqb n 0) (λ _. decode-stays (step2_begin_block (last_block c) 0 0 s) (replicate z 0) refl refl refl)
       (λ _. record { same = refl; turn = refl; same-held = λ _ _ q. q; decoded = eq })
-  meaning-stays c NotAgreed = refuse-stays s 6 refl refl refl
-  meaning-stays c NoCode = refuse-stays s 7 refl refl refl
+  meaning-stays c (Err NotAgreed) = refuse-stays s 6 refl refl refl
+  meaning-stays c (Err NoCode) = refuse-stays s 7 refl refl refl
 
   code_stays : (c : ℕ) → Stays s (step2_code g (at s a) c) (step2_code g (at s b) c)
   unfolding step2_code
@@ -152,12 +154,14 @@ module _ (g : Agreed) (s : Receiver) (a₁ a₂ b₁ b₂ : List ℕ) (alike : A
       }
 
   -- D1 that resumes what is held: the other area works
-  resume-both : (h : Fragment) → s.held ≡ h
+  resume-both : (h : Held) → s.held ≡ h
       → Both (record { state = step1_resume_held g (aside e) h s; area = (work e).area }) (record { state = step1_resume_held g (aside f) h s; area = (work f).area })
   unfolding step1_resume_held
-  resume-both nothing_held q = stays-both _ _ (record { same = refl; turn = refl; same-held = λ _ _ p. p; decoded = alike.decoded })
-  resume-both (holds n k) q =
-      let same-octets : take n (aside f) ≡ take n (aside e) = subst (λ (h : Fragment). held_octets h (aside f) ≡ held_octets h (aside e)) q alike.held in
+  resume-both None q = stays-both _ _ (record { same = refl; turn = refl; same-held = λ _ _ p. p; decoded = alike.decoded })
+  resume-both (Some h) q =
+      let n = h.count in
+      let k = h.register in
+      let same-octets : take n (aside f) ≡ take n (aside e) = subst (λ (h : Held). held_octets h (aside f) ≡ held_octets h (aside e)) q alike.held in
       rw (ap (register g.check) same-octets)
       (branch₂ (λ r t. Both (record { state = r; area = (work e).area }) (record { state = t; area = (work f).area })) (eqb (register g.check (take n (aside e))) k)
       (λ _.

@@ -10,6 +10,7 @@ use borrow.Author.Tests.{eqb-true, eqb-false, ne_eqb}
 use lib.Dec.{eqb}
 use lib.ListN.{take}
 use lib.Pow.{pow_pos}
+use Rattle.std.specs.Prelude.{Some, None}
 use Rattle.fcs.specs.CheckSequence.{width, register, Burst}
 use Rattle.fcs.proofs.Laws.{register-none}
 use Rattle.fcs.proofs.Bursts.{bursts-change}
@@ -17,7 +18,7 @@ use Rattle.cobs.specs.CodeBlocks.{flag, from_line}
 use Rattle.cobs.proofs.Tests.{branch, decide}
 use Rattle.link.specs.Agreed.{Settings, Agreed, agreed}
 use Rattle.link.specs.Answers.{quiet, refused}
-use Rattle.link.specs.Receiver.{Fragment, nothing_held, holds, PlainReading, reading_off, reading_on, Receiver, ReceiverEnd, Receive, is_plain, carried, let_go, in_bounds, step4_remember, step1_resume_held, step1_d1, is_held, area_of, aside, receive}
+use Rattle.link.specs.Receiver.{Held, holds, PlainReading, Receiver, ReceiverEnd, Receive, is_plain, carried, let_go, in_bounds, step4_remember, step1_resume_held, step1_d1, is_held, area_of, aside, receive}
 use Rattle.link.specs.ReceiverParts.{ReceiverReady}
 use Rattle.link.specs.Runs.{receives, received}
 use Rattle.link.specs.EachCall.{HeldThen, NotHeldThen}
@@ -34,13 +35,13 @@ use Rattle.link.proofs.Restart.{becomes, D1-becomes, refused-first, over-cleared
 -- ---- a D1 with something held
 
 -- what is held, unchanged, by its count and register
-abbrev Gives : Agreed → List ℕ → Fragment → Type 0
+abbrev Gives : Agreed → List ℕ → Held → Type 0
 Gives g area h = register g.check (held_octets h area) ≡ carried g h
 
 -- either the octets give the register, or they were changed
-not-given : (g : Agreed) (area : List ℕ) (h : Fragment) → Gives g area h → NoLongerGives g area h → ⊥
-not-given g area nothing_held u c = c
-not-given g area (holds n k) u c = c u
+not-given : (g : Agreed) (area : List ℕ) (h : Held) → Gives g area h → NoLongerGives g area h → ⊥
+not-given g area None u c = c
+not-given g area (Some h) u c = c u
 
 module _ (e : ReceiverEnd) (h : HasToResume e) where
   abbrev g : Agreed
@@ -49,10 +50,10 @@ module _ (e : ReceiverEnd) (h : HasToResume e) where
   abbrev at : OutOfCobsFrame e
   at = h.at
 
-  D1-refused : (f : Fragment) → is_held f ≡ true → (Gives g (aside e) f → ⊥) → step1_resume_held g (aside e) f e.state ≡ step4_remember 21 true (let_go e.state)
+  D1-refused : (f : Held) → is_held f ≡ true → (Gives g (aside e) f → ⊥) → step1_resume_held g (aside e) f e.state ≡ step4_remember 21 true (let_go e.state)
   unfolding step1_resume_held
-  D1-refused nothing_held some c = true-false (sym some)
-  D1-refused (holds n k) some c = if-not _ _ _ (ne_eqb _ k c)
+  D1-refused None some c = true-false (sym some)
+  D1-refused (Some f) some c = if-not _ _ _ (ne_eqb _ f.register c)
 
   at-once : (Unchanged e → ⊥) → receive e 0xD1 ≡ record { report = quiet; after = becomes e at (step4_remember 21 true (cleared e).state) }
   unfolding step1_d1
@@ -77,7 +78,7 @@ record Calls (h : Receive) : Type 0 where
   tells : h.report ≡ refused 21 → ⊥
 
 -- nothing held is unchanged, whatever the areas
-none-changed : (g : Agreed) (area : List ℕ) (h : Fragment) → h ≡ nothing_held → Gives g area h
+none-changed : (g : Agreed) (area : List ℕ) (h : Held) → h ≡ None → Gives g area h
 none-changed g area h e = subst (Gives g area) (sym e) (register-none g.check)
 
 module _ (e : ReceiverEnd) (k : Still e) where
@@ -88,24 +89,24 @@ module _ (e : ReceiverEnd) (k : Still e) where
     abbrev d : ReceiverEnd
     d = (receive e x).after
 
-    kept : (f : Fragment) → d.state.held ≡ f → Gives t (aside d) f → Unchanged d
+    kept : (f : Held) → d.state.held ≡ f → Gives t (aside d) f → Unchanged d
     kept f h u = rw (settings-stay.receive e x, h) u
 
     -- ---- an octet that is no flag
 
     module _ (other : x ≡ flag → ⊥) where
-      takes : (is_plain e.state.mode ≡ false → e.state.framed ≡ false → from_line x ≡ 0xD1 → t.pre ≡ true → e.state.held ≡ nothing_held) → Unchanged d
+      takes : (is_plain e.state.mode ≡ false → e.state.framed ≡ false → from_line x ≡ 0xD1 → t.pre ≡ true → e.state.held ≡ None) → Unchanged d
       takes none =
           let m = receives-so.takes_in e a x other none in
           let same : aside d ≡ aside e = ap (λ (b : Bool). area_of (not b) d) m.turn ∙ m.other in
           kept _ m.held
           (rw same (branch (Gives t (aside e)) (not (is_plain e.state.mode) && not e.state.framed && eqb (from_line x) 0xFF) (λ _. register-none t.check) (λ _. k.unchanged)))
 
-      by-held : is_plain e.state.mode ≡ false → e.state.framed ≡ false → from_line x ≡ 0xD1 → t.pre ≡ true → (f : Fragment) → e.state.held ≡ f → Unchanged d
-      by-held cobs-read out is pre nothing_held q = takes (λ _ _ _ _. q)
-      by-held cobs-read out is pre (holds n c) q =
-          let m = resumed-by-D1 e a cobs-read out pre n c q (subst (Gives t (aside e)) q k.unchanged) x other is in
-          kept nothing_held m.held (register-none t.check)
+      by-held : is_plain e.state.mode ≡ false → e.state.framed ≡ false → from_line x ≡ 0xD1 → t.pre ≡ true → (f : Held) → e.state.held ≡ f → Unchanged d
+      by-held cobs-read out is pre None q = takes (λ _ _ _ _. q)
+      by-held cobs-read out is pre (Some f) q =
+          let m = resumed-by-D1 e a cobs-read out pre f.count f.register q (subst (Gives t (aside e)) q k.unchanged) x other is in
+          kept None m.held (register-none t.check)
 
       octet-unchanged : Unchanged d
       octet-unchanged =
@@ -134,7 +135,7 @@ module _ (e : ReceiverEnd) (k : Still e) where
     abbrev v : ReceiverEnd
     v = (receive e flag).after
 
-    flag-kept : (turn : Bool) (f : Fragment) → v.state.turn ≡ turn → v.state.held ≡ f → v.first ≡ e.first → v.second ≡ e.second
+    flag-kept : (turn : Bool) (f : Held) → v.state.turn ≡ turn → v.state.held ≡ f → v.first ≡ e.first → v.second ≡ e.second
         → Gives t (area_of (not turn) e) f → Unchanged v
     flag-kept turn f b h i j u =
         kept a flag f h (rw (ap (λ (c : Bool). area_of (not c) v) b, i, j) u)
@@ -221,8 +222,8 @@ too_wide r n k h wide =
     (λ b. b)
 
 fresh-never : (t : Settings) (reading : PlainReading) (a b line : List ℕ) → NeverChanged (fresh_receiver t reading a b) line
-fresh-never t reading_off a b line = never-changed (fresh_receiver t reading_off a b) (register-none (agreed t).check) (λ q. omega arith) line
-fresh-never t (reading_on map) a b line = never-changed (fresh_receiver t (reading_on map) a b) (register-none (agreed t).check) (λ q. omega arith) line
+fresh-never t None a b line = never-changed (fresh_receiver t None a b) (register-none (agreed t).check) (λ q. omega arith) line
+fresh-never t (Some map) a b line = never-changed (fresh_receiver t (Some map) a b) (register-none (agreed t).check) (λ q. omega arith) line
 
 pub areas-changed : AreasChanged
 areas-changed =

@@ -8,12 +8,13 @@ use mathlib.Core.Option.{Option, none, some}
 use Prim.Native.Nat.{ℕ, ◌≤◌}
 use native.Mathlib.Omega.{arith}
 use lib.ListN.{length}
+use Rattle.std.specs.Prelude.{Some, None}
 use Rattle.fcs.specs.CheckSequence as check
 use Rattle.cobs.specs.CodeBlocks.{flag}
 use Rattle.link.specs.Agreed.{Settings, Agreed, agreed, most_decoded, valid}
 use Rattle.link.specs.Answers.{Answer, done, octet, idle, quiet, packet, held, refused}
-use Rattle.link.specs.Sender.{Lane, low, high, OnLine, no_lane, sending, LaneState, Out, closes, breaks_off, sends, sends_nothing, refuses, out_answer, next}
-use Rattle.link.specs.Receiver.{PlainReading, reading_off, reading_on, ReceiverEnd, Receive, is_held, is_plain, receive}
+use Rattle.link.specs.Sender.{Lane, low, high, OnLine, LaneState, Out, closes, breaks_off, sends, sends_nothing, refuses, out_answer, next}
+use Rattle.link.specs.Receiver.{PlainReading, ReceiverEnd, Receive, is_held, is_plain, receive}
 use Rattle.link.specs.Receiver as receiver
 use Rattle.link.specs.ReceiverParts.{ReceiverReady}
 use Rattle.link.specs.Runs.{received, Station, Written, SenderCall, loading, next_octet, fresh_station, writes, written, written_octets, at_true, at_false, packet_in, refusal_in, refusal_of, stands_for, present, refusals_in, under_way, ends_its_frame, aside_after, left_aside, replaces_after, AllArrive, ExpectedReport, AllAsExpected, closed_by, run, after_load, after_next}
@@ -176,19 +177,19 @@ come-through s es hs a = record { each = a; packets = ap present (each-packet s 
 
 -- a fresh receiver, plain reading off or on: it reads COBS
 fresh-reads : (t : Settings) (reading : PlainReading) (a b : List ℕ) → is_plain (fresh_receiver t reading a b).state.mode ≡ false
-fresh-reads t reading_off a b = refl
-fresh-reads t (reading_on map) a b = refl
+fresh-reads t None a b = refl
+fresh-reads t (Some map) a b = refl
 
 fresh-out : (t : Settings) (reading : PlainReading) (a b : List ℕ) → (fresh_receiver t reading a b).state.framed ≡ false
-fresh-out t reading_off a b = refl
-fresh-out t (reading_on map) a b = refl
+fresh-out t None a b = refl
+fresh-out t (Some map) a b = refl
 
 pub fresh-ready : (t : Settings) (reading : PlainReading) → valid (agreed t) ≡ true → (a b : List ℕ) → most_decoded (agreed t) ≤ length a → most_decoded (agreed t) ≤ length b
     → ReceiverReady (fresh_receiver t reading a b)
-fresh-ready t reading_off v a b h k =
-    record { valid = v; first = h; second = k; bounds = in_bounds_lem _ _ refl (λ _. refl) (fresh_in (agreed t) t receiver.kept_off 0 false receiver.nothing_held tt) }
-fresh-ready t (reading_on map) v a b h k =
-    record { valid = v; first = h; second = k; bounds = in_bounds_lem _ _ refl (λ q. absurd (omega arith)) (fresh_in (agreed t) t receiver.cobs map false receiver.nothing_held tt) }
+fresh-ready t None v a b h k =
+    record { valid = v; first = h; second = k; bounds = in_bounds_lem _ _ refl (λ _. refl) (fresh_in (agreed t) t receiver.kept_off 0 false None tt) }
+fresh-ready t (Some map) v a b h k =
+    record { valid = v; first = h; second = k; bounds = in_bounds_lem _ _ refl (λ q. absurd (omega arith)) (fresh_in (agreed t) t receiver.cobs map false None tt) }
 
 -- ---- at the chosen flag
 
@@ -198,21 +199,21 @@ held-at-flag true q a e r = refl
 held-at-flag false q a e r = (refl, record { plain = r; is = refl })
 
 module _ (g : Agreed) (ql qh : LaneState) (n z : ℕ) (t : Settings) (al ah : List ℕ) (bl bh : Option (List ℕ)) (e : ReceiverEnd) where
-  start : (o : OnLine) (u c : Bool) → o ≡ no_lane → Ready g e → e.state.framed ≡ false
+  start : (o : OnLine) (u c : Bool) → o ≡ None → Ready g e → e.state.framed ≡ false
       → Lock g bl u (not u && is_held e.state.held) (station (sender ql qh n z o u c t) al ah bl bh) e
-  start (sending l) u c q r out = absurd (let i : ◌≡◌ {A = ℕ} 0 1 = cc in omega arith)
-  start no_lane u c q r out = record { ready = r; whose = λ _. refl; along = (out, held-at-flag u ql al e (r.bounds.out out).resumed-0) }
+  start (Some l) u c q r out = absurd (let i : ◌≡◌ {A = ℕ} 0 1 = cc in omega arith)
+  start None u c q r out = record { ready = r; whose = λ _. refl; along = (out, held-at-flag u ql al e (r.bounds.out out).resumed-0) }
 
 -- ---- the demands
 
 -- under way after a flag is a suspended low packet, and no other
-under-way-low : (o : OnLine) (u : Bool) → o ≡ no_lane → under_way_by low o u ≡ u
-under-way-low no_lane u e = refl
-under-way-low (sending l) u e = absurd (let i : ◌≡◌ {A = ℕ} 0 1 = cc in omega arith)
+under-way-low : (o : OnLine) (u : Bool) → o ≡ None → under_way_by low o u ≡ u
+under-way-low None u e = refl
+under-way-low (Some l) u e = absurd (let i : ◌≡◌ {A = ℕ} 0 1 = cc in omega arith)
 
-under-way-high : (o : OnLine) (u : Bool) → o ≡ no_lane → under_way_by high o u ≡ false
-under-way-high no_lane u e = refl
-under-way-high (sending l) u e = absurd (let i : ◌≡◌ {A = ℕ} 0 1 = cc in omega arith)
+under-way-high : (o : OnLine) (u : Bool) → o ≡ None → under_way_by high o u ≡ false
+under-way-high None u e = refl
+under-way-high (Some l) u e = absurd (let i : ◌≡◌ {A = ℕ} 0 1 = cc in omega arith)
 
 up-to-flag : (t : Settings) (a b : List ℕ) (l : Lane) (before : List SenderCall)
     → under_way l false (written (fresh_station t a b) (before ++ (next_octet ∷ []))) ≡ under_way_in l (after_next (run (fresh_station t a b) before))
@@ -222,7 +223,7 @@ up-to-flag t a b l before =
     ap (λ (c : Bool). under_way l c (written w (before ++ (next_octet ∷ [])))) (sym (none_yet l))
     ∙ (under-way (agreed t) l w (before ++ (next_octet ∷ [])) (sound-fresh t a b) ∙ ap (under_way_in l) (run-append w before (next_octet ∷ [])))
   where
-    none_yet : (l : Lane) → under_way_by l no_lane false ≡ false
+    none_yet : (l : Lane) → under_way_by l None false ≡ false
     none_yet low = refl
     none_yet high = refl
 
@@ -243,7 +244,7 @@ module _ (t : Settings) (v-t : valid (agreed t) ≡ true) (a b : List ℕ) (befo
       let p = w₁.end.state in
       let u = p.suspended in
       let i : Sound g w = sound-run g v before (sound-fresh t a b) in
-      let off : p.on ≡ no_lane = flag_off g w i f in
+      let off : p.on ≡ None = flag_off g w i f in
       let is : under_way low false (written v (before ++ (next_octet ∷ []))) ≡ u = up-to-flag t a b low before ∙ under-way-low p.on u off in
       let k : Lock g w₁.lanes.low u (not u && is_held e₁.state.held) w₁ e₁ =
       start g p.low p.high p.left p.zeros p.settings w₁.end.low w₁.end.high w₁.lanes.low w₁.lanes.high e₁
@@ -294,5 +295,5 @@ sound-line t reading v a b first second h₁ h₂ calls =
     rw c.calls (come-through false es hs (none-aside none false es hs (answered (agreed t) (sound-check t) none false false w calls e (sound-fresh t a b) k)))
   where
     fresh-lock : (reading : PlainReading) → ReceiverReady (fresh_receiver t reading first second) → Lock (agreed t) none false false (fresh_station t a b) (fresh_receiver t reading first second)
-    fresh-lock reading_off z = record { ready = ready_of _ z refl; whose = λ _. refl; along = (refl, (refl, record { plain = refl; is = refl })) }
-    fresh-lock (reading_on map) z = record { ready = ready_of _ z refl; whose = λ _. refl; along = (refl, (refl, record { plain = refl; is = refl })) }
+    fresh-lock None z = record { ready = ready_of _ z refl; whose = λ _. refl; along = (refl, (refl, record { plain = refl; is = refl })) }
+    fresh-lock (Some map) z = record { ready = ready_of _ z refl; whose = λ _. refl; along = (refl, (refl, record { plain = refl; is = refl })) }

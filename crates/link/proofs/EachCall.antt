@@ -9,16 +9,16 @@ use borrow.Author.Tests.{eqb-true, eqb-false, ltb-false, lt-ltb, le-ltb, ne_eqb,
 use lib.Dec.{ltb, eqb}
 use lib.ListN.{length, take, drop, replicate, length-append}
 use lib.Seq.{take-append_seam, drop-append_seam, take-take, drop-drop, take_at, drop_at, length-take-le}
+use Rattle.std.specs.Prelude.{None, Some, Ok, Err}
 use Rattle.fcs.specs.CheckSequence.{register, good}
-use Rattle.cobs.specs.CodeBlocks.{frame, flag, from_line, meaning}
-use Rattle.cobs.specs.declared.Meaning.{Meaning}
-use Rattle.cobs.specs.declared.Meaning.TheVariants.{InTable, NotAgreed, NoCode}
+use Rattle.cobs.specs.CodeBlocks.{frame, flag, from_line, meaning, Meaning}
+use Rattle.cobs.specs.declared.CodeError.TheVariants.{NotAgreed, NoCode}
 use Rattle.cobs.proofs.Tests.{branch, decide, and_left, and_right}
 use Rattle.cobs.proofs.Exchange.{from-line}
 use Rattle.link.specs.Agreed.{Settings, Agreed, agreed, least_frame, most_decoded}
 use Rattle.link.specs.Answers.{Answer, done, octet, idle, quiet, packet, held, refused}
-use Rattle.link.specs.Sender.{Lane, low, high, OnLine, no_lane, Sender, SenderEnd, closes, Step, empty_lane, lane_state, out_answer, put_frame, load, next, Load}
-use Rattle.link.specs.Receiver.{Fragment, nothing_held, holds, PlainReading, reading_off, reading_on, Receiver, Working, ReceiverEnd, Receive, Ended, is_no_block, is_d0, is_plain, begins_plain, write, step4_refuse, step3_write, step3_decode, step3_data, step2_by_meaning, step2_code, step1_resume_held, step1_d1, step1_first_octet, steps_1_to_4, step5_end, step5_without_phantom, step5_flag, at_flag, plain_octet, begin_plain, at_plain_flag, work, aside, put_back, flagged, receive}
+use Rattle.link.specs.Sender.{Lane, low, high, OnLine, Sender, SenderEnd, closes, Step, empty_lane, lane_state, out_answer, put_frame, load, next, Load}
+use Rattle.link.specs.Receiver.{holds, PlainReading, Receiver, Working, ReceiverEnd, Receive, Ended, is_no_block, is_d0, is_plain, begins_plain, write, step4_refuse, step3_write, step3_decode, step3_data, step2_by_meaning, step2_code, step1_resume_held, step1_d1, step1_first_octet, steps_1_to_4, step5_end, step5_without_phantom, step5_flag, at_flag, plain_octet, begin_plain, at_plain_flag, work, aside, put_back, flagged, receive, Held}
 use Rattle.link.specs.Receiver as receiver
 use Rattle.link.specs.ReceiverParts.{ReceiverReady}
 use Rattle.link.specs.EachCall.{RefusedChangesNothing, IdleChangesNothing, Loads, DoneLoads, SettingsStay, ClosedIsEmpty, TakesIn, BlockOver, Resumes, HeldThen, NotHeldThen, EndsFrame, ReceivesSo, ValidFirst, AreasThenState}
@@ -122,7 +122,7 @@ load-settings high p s area = sent.by-load (agreed s.settings) high p s area (λ
 
 -- which lane a step closes
 abbrev Closed : Lane → Step → Type 0
-Closed l st = (lane_state l st.state ≡ empty_lane) × (st.state.on ≡ no_lane)
+Closed l st = (lane_state l st.state ≡ empty_lane) × (st.state.on ≡ None)
 
 way-closed : (g : Agreed) (s : Sender) (d : List ℕ) (k : Lane) (st : Step) → Way g k s d st → (l : Lane) → st.out ≡ closes l → Closed l st
 way-closed g s d low st (ends over) low q = (refl, refl)
@@ -181,6 +181,7 @@ valid-first =
       receiver_limit = λ t _ n. rw n;
       sender_width = λ t l w. rw (l, w);
       receiver_width = λ t _ l w. rw (l, w);
+      opening_numbers = (refl, refl);
       load = λ l p s area n. ap loads (sent.load-invalid l p s area n);
       next = λ e n. ap sends (sent.next-invalid e n);
       receive = λ e x n. ap hears (not_valid e x n);
@@ -206,7 +207,7 @@ refused-changes-nothing = record { load = load-refused; next = next-refused; rec
 -- ---- an octet is written only after those that are decoded
 
 -- w before it, w' after it, which then holds the fragment h
-record Moves (h : Fragment) (w w' : Working) : Type 0 where
+record Moves (h : Held) (w w' : Working) : Type 0 where
   turn-is : w'.state.turn ≡ w.state.turn
   held-is : w'.state.held ≡ h
   count : w.state.decoded ≤ w'.state.decoded
@@ -218,7 +219,7 @@ abbrev Keeps : Working → Working → Type 0
 Keeps w w' = Moves w.state.held w w'
 
 -- nothing is written, and no more is decoded
-stays : {h : Fragment} (w : Working) (r : Receiver) → r.turn ≡ w.state.turn → r.held ≡ h → r.decoded ≡ w.state.decoded
+stays : {h : Held} (w : Working) (r : Receiver) → r.turn ≡ w.state.turn → r.held ≡ h → r.decoded ≡ w.state.decoded
     → Moves h w (record { state = r; area = w.area })
 stays w r h k i = record { turn-is = h; held-is = k; count = omega arith; same = refl; behind = refl }
 
@@ -285,19 +286,21 @@ module _ (g : Agreed) where
 
     code-moves : (c : ℕ) (m : Meaning) → Keeps w (step2_by_meaning g w c m)
     unfolding step2_by_meaning
-    code-moves c (InTable n z) =
+    code-moves c (Ok row) =
+        let n = row.nonzeros in
+        let z = row.zeros in
         let r = receiver.step2_begin_block (receiver.last_block c) 0 0 w.state in
         branch (Keeps w) (eqb n 0) (λ _. after r _ refl refl refl (decodes (replicate z 0) (record { state = r; area = w.area }) long))
         (λ _. stays w _ refl refl refl)
-    code-moves c NotAgreed = unwritten 6 w
-    code-moves c NoCode = unwritten 7 w
+    code-moves c (Err NotAgreed) = unwritten 6 w
+    code-moves c (Err NoCode) = unwritten 7 w
 
     -- D1 that resumes nothing
-    D1-moves : (o : List ℕ) → (g.pre ≡ true → w.state.held ≡ nothing_held) → Keeps w (record { state = step1_d1 g o w.state; area = w.area })
+    D1-moves : (o : List ℕ) → (g.pre ≡ true → w.state.held ≡ None) → Keeps w (record { state = step1_d1 g o w.state; area = w.area })
     unfolding step1_d1 step1_resume_held
     D1-moves o none-held =
         branch (λ (r : Receiver). Keeps w (record { state = r; area = w.area })) g.pre
-        (λ pre. subst (λ (k : Fragment). Keeps w (record { state = step1_resume_held g o k w.state; area = w.area })) (sym (none-held pre)) (stays w _ refl refl refl))
+        (λ pre. subst (λ (k : Held). Keeps w (record { state = step1_resume_held g o k w.state; area = w.area })) (sym (none-held pre)) (stays w _ refl refl refl))
         (λ _. stays w _ refl refl refl)
 
     -- in a frame, and at its first octet
@@ -308,20 +311,20 @@ module _ (g : Agreed) where
         (λ _. branch (Keeps w) (not w.state.framed) (λ out. true-false (sym f ∙ not-true w.state.framed out))
         (λ _. branch (Keeps w) (ltb 0 w.state.left) (λ _. data-moves x) (λ _. code-moves x (meaning g.zxe x))))
 
-    first-moves : (o : List ℕ) (x : ℕ) → (x ≡ 0xD1 → g.pre ≡ true → w.state.held ≡ nothing_held)
-        → Moves (cond (eqb x 0xFF) nothing_held w.state.held) w (step1_first_octet g o w x)
+    first-moves : (o : List ℕ) (x : ℕ) → (x ≡ 0xD1 → g.pre ≡ true → w.state.held ≡ None)
+        → Moves (cond (eqb x 0xFF) None w.state.held) w (step1_first_octet g o w x)
     unfolding step1_first_octet step2_code
     first-moves o x h =
         decide (eqb x 0xFF) (λ e. rw e (stays w _ refl refl refl))
         (λ e. rw e (branch (Keeps w) (eqb x 0xD1) (λ d. D1-moves o (h (eqb-true x 0xD1 d))) (λ _. code-moves x (meaning g.zxe x))))
 
-    octet-moves : (o : List ℕ) (x : ℕ) → heard.Bounds g w.state → (w.state.framed ≡ false → x ≡ 0xD1 → g.pre ≡ true → w.state.held ≡ nothing_held)
-        → Moves (cond (not w.state.framed && eqb x 0xFF) nothing_held w.state.held) w (steps_1_to_4 g o w x)
+    octet-moves : (o : List ℕ) (x : ℕ) → heard.Bounds g w.state → (w.state.framed ≡ false → x ≡ 0xD1 → g.pre ≡ true → w.state.held ≡ None)
+        → Moves (cond (not w.state.framed && eqb x 0xFF) None w.state.held) w (steps_1_to_4 g o w x)
     octet-moves o x b h =
-        decide w.state.framed (λ f. subst (λ (k : Bool). Moves (cond (not k && eqb x 0xFF) nothing_held w.state.held) w (steps_1_to_4 g o w x)) (sym f) (inside o x f))
+        decide w.state.framed (λ f. subst (λ (k : Bool). Moves (cond (not k && eqb x 0xFF) None w.state.held) w (steps_1_to_4 g o w x)) (sym f) (inside o x f))
         (λ f.
-        subst (λ (k : Bool). Moves (cond (not k && eqb x 0xFF) nothing_held w.state.held) w (steps_1_to_4 g o w x)) (sym f)
-        (subst (Moves (cond (eqb x 0xFF) nothing_held w.state.held) w) (sym (heard.first-octet g o w x b f)) (first-moves o x (h f))))
+        subst (λ (k : Bool). Moves (cond (not k && eqb x 0xFF) None w.state.held) w (steps_1_to_4 g o w x)) (sym f)
+        (subst (Moves (cond (eqb x 0xFF) None w.state.held) w) (sym (heard.first-octet g o w x b f)) (first-moves o x (h f))))
 
 -- ---- whether the frame is a resumed one
 
@@ -344,14 +347,16 @@ module _ (g : Agreed) (w : Working) where
 
   code_same : (c : ℕ) (k : Meaning) → Same (step2_by_meaning g w c k)
   unfolding step2_by_meaning
-  code_same c (InTable n z) = branch Same (eqb n 0) (λ _. decode-same (replicate z 0) _ refl) (λ _. refl)
-  code_same c NotAgreed = refl
-  code_same c NoCode = refl
+  code_same c (Ok row) = branch Same (eqb row.nonzeros 0) (λ _. decode-same (replicate row.zeros 0) _ refl) (λ _. refl)
+  code_same c (Err NotAgreed) = refl
+  code_same c (Err NoCode) = refl
 
-  D1-marks : (o : List ℕ) (h : Fragment) → (step1_resume_held g o h w.state).resumed ≡ true
+  D1-marks : (o : List ℕ) (h : Held) → (step1_resume_held g o h w.state).resumed ≡ true
   unfolding step1_resume_held
-  D1-marks o nothing_held = refl
-  D1-marks o (holds n k) = branch (λ (r : Receiver). r.resumed ≡ true) (eqb (register g.check (take n o)) k) (λ _. refl) (λ _. refl)
+  D1-marks o None = refl
+  D1-marks o (Some h) = let n = h.count in
+      let k = h.register in
+      branch (λ (r : Receiver). r.resumed ≡ true) (eqb (register g.check (take n o)) k) (λ _. refl) (λ _. refl)
 
   -- a first octet, where the mark is not set
   first_marks : (o : List ℕ) (x : ℕ) → m ≡ false → (step1_first_octet g o w x).state.resumed ≡ eqb x 0xD1
@@ -382,16 +387,16 @@ module _ (g : Agreed) (w : Working) where
 -- ---- the settings
 
 opened-settings : (t : Settings) (reading : PlainReading) → (receiver.opened_receiver t reading).settings ≡ t
-opened-settings t reading_off = refl
-opened-settings t (reading_on map) = refl
+opened-settings t None = refl
+opened-settings t (Some map) = refl
 
 pub settings-stay : SettingsStay
 settings-stay =
     record { opened_sender = λ t. refl; opened_receiver = opened-settings; load = load-settings; next = next-settings; receive = receive-settings }
 
 -- the work area put back
-put-back-writes : (x : ℕ) (e : ReceiverEnd) (w : Working) (h : Fragment) → Moves h (work e) w
-    → h ≡ cond (not (is_plain e.state.mode) && not e.state.framed && eqb (from_line x) 0xFF) nothing_held e.state.held
+put-back-writes : (x : ℕ) (e : ReceiverEnd) (w : Working) (h : Held) → Moves h (work e) w
+    → h ≡ cond (not (is_plain e.state.mode) && not e.state.framed && eqb (from_line x) 0xFF) None e.state.held
     → TakesIn x e (put_back e w)
 put-back-writes x e w h m is =
     let b = e.state.turn in
@@ -413,7 +418,7 @@ module _ (g : Agreed) (e : ReceiverEnd) where
   ends_so : (a : Answer) → ((n : ℕ) (replaced : Bool) → a ≡ held n replaced → ⊥) → (a ≡ quiet → ⊥) → Ends (step5_end a e.state)
   ends_so a h q =
       heard.by_end (λ (s : Receiver). Ends (record { report = a; state = s })) e.state
-      (λ k. inr (record { fragment = nothing_held; state = refl; resumed = λ _. refl; other = λ i. true-false (sym k ∙ i); no_held = h; no_quiet = q }))
+      (λ k. inr (record { fragment = None; state = refl; resumed = λ _. refl; other = λ i. true-false (sym k ∙ i); no_held = h; no_quiet = q }))
       (λ k. inr (record { fragment = e.state.held; state = refl; resumed = λ i. true-false (sym i ∙ k); other = λ _. refl; no_held = h; no_quiet = q }))
 
   ends-refused : (n : ℕ) → Ends (step5_end (refused n) e.state)
@@ -472,12 +477,12 @@ module _ (g : Agreed) (e : ReceiverEnd) where
         })
 
     octet-writes : (x : ℕ) → (x ≡ flag → ⊥) → is_plain e.state.mode ≡ false
-        → (e.state.framed ≡ false → from_line x ≡ 0xD1 → g.pre ≡ true → e.state.held ≡ nothing_held)
+        → (e.state.framed ≡ false → from_line x ≡ 0xD1 → g.pre ≡ true → e.state.held ≡ None)
         → TakesIn x e (cobs_receive e x).after
     octet-writes x f p h =
         rw (heard.receive_other g e z x f)
         (put-back-writes x e _ _ (octet-moves g (work e) (heard.fit-work g e z).long (aside e) (from_line x) z.bounds h)
-        (ap (λ (b : Bool). cond (not b && not e.state.framed && eqb (from_line x) 0xFF) nothing_held e.state.held) (sym p)))
+        (ap (λ (b : Bool). cond (not b && not e.state.framed && eqb (from_line x) 0xFF) None e.state.held) (sym p)))
 
     octet-remembers : e.state.refusal ≡ 0 → (x : ℕ) → (x ≡ flag → ⊥) → ((cobs_receive e x).after.state.refusal ≡ 0 → ⊥) → BlockOver (cobs_receive e x).after.state
     octet-remembers c x f = rw (heard.receive_other g e z x f) (octet-so (Unit {0}) g (aside e) (work e) c (from_line x) (λ _ _. tt)).over
@@ -512,10 +517,10 @@ module _ (g : Agreed) (w : Working) (long : most_decoded g ≤ length w.area) wh
       by-octet g (Keeps w) w x (stays w w.state refl refl refl) (λ _. stays w _ refl refl refl) (λ _ _. stays w _ refl refl refl)
       (λ y _ room. after g w long (receiver.in_plain_frame receiver.plain w.state) _ refl refl refl (writes-on (y ∷ []) _ (omega arith)))
 
-  begin-moves : Moves nothing_held w (begin_plain g w)
+  begin-moves : Moves None w (begin_plain g w)
   begin-moves =
       let r = receiver.in_plain_frame receiver.plain (receiver.let_go w.state) in
-      by-begin g (Moves nothing_held w) w (λ _. stays w _ refl refl refl)
+      by-begin g (Moves None w) w (λ _. stays w _ refl refl refl)
       (λ room.
       let k = writes-on (0xFF ∷ []) (record { state = r; area = w.area }) (omega arith) in
       record { turn-is = k.turn-is; held-is = k.held-is; count = k.count; same = k.same; behind = k.behind })
@@ -528,19 +533,19 @@ module _ (e : ReceiverEnd) (a : ReceiverReady e) where
   plain-writes x p f =
       rw (in-plain e x a p ∙ if-not _ _ _ (ne_eqb x flag f))
       (put-back-writes x e _ _ (plain-moves agr (work e) (fit-plain e x a p).long x)
-      (ap (λ (b : Bool). cond (not b && not e.state.framed && eqb (from_line x) 0xFF) nothing_held e.state.held) (sym p)))
+      (ap (λ (b : Bool). cond (not b && not e.state.framed && eqb (from_line x) 0xFF) None e.state.held) (sym p)))
 
   begin-writes : (x : ℕ) → is_plain e.state.mode ≡ false → begins_plain e.state x ≡ true → TakesIn x e (receive e x).after
   begin-writes x p b =
       let k = begins-first e x b in
-      let held-none : nothing_held ≡ cond (not (is_plain e.state.mode) && not e.state.framed && eqb (from_line x) 0xFF) nothing_held e.state.held =
+      let held-none : None ≡ cond (not (is_plain e.state.mode) && not e.state.framed && eqb (from_line x) 0xFF) None e.state.held =
       rw (p, k.out, ap from_line k.is ∙ from-line 0xFF (λ q. omega arith)) in
       rw (begins e x a p b) (put-back-writes x e _ _ (begin-moves agr (work e) (heard.fit-work agr e (ready_of e a p)).long) held-none)
 
   -- ---- any octet that is no flag
 
   octet-takes : (x : ℕ) → (x ≡ flag → ⊥)
-      → (is_plain e.state.mode ≡ false → e.state.framed ≡ false → from_line x ≡ 0xD1 → agr.pre ≡ true → e.state.held ≡ nothing_held)
+      → (is_plain e.state.mode ≡ false → e.state.framed ≡ false → from_line x ≡ 0xD1 → agr.pre ≡ true → e.state.held ≡ None)
       → TakesIn x e (receive e x).after
   octet-takes x f h =
       decide (is_plain e.state.mode) (λ p. plain-writes x p f)

@@ -10,6 +10,7 @@ use native.Mathlib.Omega.{arith}
 use borrow.Author.Tests.{ne_eqb, le-ltb, le-leb, lt-leb, ltb-true, ltb-false}
 use lib.Dec.{leb, ltb}
 use lib.ListN.{length, length-replicate}
+use Rattle.std.specs.Prelude.{None}
 use Rattle.fcs.specs.Notation.{◌⊕◌}
 use Rattle.fcs.specs.CheckSequence.{bit_step, bit_steps, entry, octet_step, feed, register, low_first, fcs, good}
 use Rattle.cobs.specs.CodeBlocks.{flag, in_range, code_table, meaning, to_line, from_line, leading, choice}
@@ -19,7 +20,7 @@ use Rattle.link.specs.Answers.{done, quiet, refused}
 use Rattle.link.specs.Sender.{Lane, low, Sender, Load, opened_sender, lane_state, put_frame, load, step4_break_off, step5_data, step6_code, steps_3_to_6, step2_no_lane, steps_1_to_6, next}
 use Rattle.link.specs.Sender as sender
 use Rattle.link.specs.Demands.{fresh_receiver}
-use Rattle.link.specs.Receiver.{nothing_held, kept_off, reading_off, Receive, opened_receiver, step3_decode, step3_data, step2_by_meaning, step2_code, step1_resume_held, step1_d1, step1_first_octet, steps_1_to_4, step5_without_phantom, step5_flag, at_flag, receive}
+use Rattle.link.specs.Receiver.{kept_off, Receive, opened_receiver, step3_decode, step3_data, step2_by_meaning, step2_code, step1_resume_held, step1_d1, step1_first_octet, steps_1_to_4, step5_without_phantom, step5_flag, at_flag, receive}
 use Rattle.link.specs.Receiver as receiver
 use Rattle.link.specs.Runs.{after_load, after_next, run, sender_answers, written, receives, not_quiet, received}
 use Rattle.link.specs.Examples.{OtherBitsIgnored, AgreedLengths, PacketLengths, Example, Tells, settings_examples, width_examples, limit_examples, largest_examples, agreeing, area, code_examples, call_examples, sender_bounds, receiver_bounds, empty_examples, frame_examples, held_examples, changed_examples, examples, Examples}
@@ -104,18 +105,18 @@ module _ (t : Settings) (v : valid (agreed t) ≡ true) where
   short-load : (p : List ℕ) (m : ℕ) → m < largest_frame (agreed t) → (load low p (opened_sender t) (area m)).answer ≡ refused 2
   short-load p m c = areas-then-state.load_short low p (opened_sender t) (area m) v (rw (size m) c)
 
-  short-second : (m n : ℕ) → n < most_decoded (agreed t) → (receive (fresh_receiver t reading_off (area m) (area n)) flag).report ≡ refused 2
-  short-second m n c = areas-then-state.receive_short (fresh_receiver t reading_off (area m) (area n)) flag v (inr (rw (size n) c))
+  short-second : (m n : ℕ) → n < most_decoded (agreed t) → (receive (fresh_receiver t None (area m) (area n)) flag).report ≡ refused 2
+  short-second m n c = areas-then-state.receive_short (fresh_receiver t None (area m) (area n)) flag v (inr (rw (size n) c))
 
-  empty-frame : (m n : ℕ) → most_decoded (agreed t) ≤ m → most_decoded (agreed t) ≤ n → (receive (fresh_receiver t reading_off (area m) (area n)) flag).report ≡ quiet
+  empty-frame : (m n : ℕ) → most_decoded (agreed t) ≤ m → most_decoded (agreed t) ≤ n → (receive (fresh_receiver t None (area m) (area n)) flag).report ≡ quiet
   empty-frame m n a b =
       ap (λ (h : Receive). h.report)
-      (receives-so.empty (fresh_receiver t reading_off (area m) (area n))
+      (receives-so.empty (fresh_receiver t None (area m) (area n))
       (record {
         valid = v;
         first = rw (size m) a;
         second = rw (size n) b;
-        bounds = heard.in_bounds_lem (agreed t) (opened_receiver t reading_off) refl (λ _. refl) (heard.fresh_in (agreed t) t kept_off 0 false nothing_held tt);
+        bounds = heard.in_bounds_lem (agreed t) (opened_receiver t None) refl (λ _. refl) (heard.fresh_in (agreed t) t kept_off 0 false None tt);
       })
       refl)
 

@@ -6,11 +6,12 @@ use Prim.Native.Nat.{ℕ}
 use native.Mathlib.Omega.{arith}
 use borrow.Author.Tests.{ne_eqb}
 use lib.ListN.{drop}
+use Rattle.std.specs.Prelude.{Some, None}
 use Rattle.cobs.specs.CodeBlocks.{flag, to_line, choice}
 use Rattle.cobs.proofs.Exchange.{no_flag, to-other}
 use Rattle.cobs.proofs.Chosen.{code_below}
 use Rattle.link.specs.Agreed.{Settings, Agreed}
-use Rattle.link.specs.Sender.{Lane, low, high, OnLine, no_lane, sending, LaneState, Sender, Out, closes, breaks_off, sends, sends_nothing, refuses, Step, lane_state, next, put_frame}
+use Rattle.link.specs.Sender.{Lane, low, high, OnLine, LaneState, Sender, Out, closes, breaks_off, sends, sends_nothing, refuses, Step, lane_state, next, put_frame}
 use Rattle.link.specs.Runs.{Station, Written, writes, written, written_octets, after_load, after_next, SenderCall, loading, next_octet}
 use Rattle.link.specs.Demands.{frame_began_ff}
 use Rattle.link.proofs.Tests.{true-false}
@@ -21,8 +22,8 @@ use Rattle.link.proofs.Sound.{Sound, by-load, sound-load, sound-next}
 -- What a step writes, b: where a frame begins; o, o': the lane on the line before and after it. Behind a flag no lane is; and with no lane on the
 -- line the octet is a code, D1 or 02.
 abbrev Begins : Bool → OnLine → OnLine → Out → Type 0
-Begins b o o' (closes l) = o' ≡ no_lane
-Begins b o o' breaks_off = o' ≡ no_lane
+Begins b o o' (closes l) = o' ≡ None
+Begins b o o' breaks_off = o' ≡ None
 Begins b o o' (sends l x) = (b ≡ true → x ≡ 0xFF → ⊥) × (x ≡ flag → ⊥)
 Begins b o o' sends_nothing = o' ≡ o
 Begins b o o' (refuses n) = o' ≡ o
@@ -44,17 +45,17 @@ module _ (b : Bool) (o : OnLine) (g : Agreed) (l : Lane) (s : Sender) (d : List 
   way-first st (goes x pos n z short v free) = goes_first x pos n z v
 
 module _ (b : Bool) (g : Agreed) (ql qh : LaneState) (n z : ℕ) (t : Settings) (al ah : List ℕ) where
-  turn-first : (o : OnLine) (u c : Bool) (st : Step) → Turn g ql qh n z t al ah o u c st → bounds.Bounds g (sender ql qh n z o u c t) → (b ≡ true → o ≡ no_lane)
+  turn-first : (o : OnLine) (u c : Bool) (st : Step) → Turn g ql qh n z t al ah o u c st → bounds.Bounds g (sender ql qh n z o u c t) → (b ≡ true → o ≡ None)
       → Begins b o st.state.on st.out
   turn-first o u c st cut-due i h = refl
   turn-first o u c st (idles j k) i h = refl
   turn-first o u c st (resumes-low j k) i h = ((λ _ q. omega arith), λ q. omega arith)
-  turn-first o u c st (begins-high k w) i h = way-first b no_lane g high _ _ (λ _. i.line.0) st w
-  turn-first o u c st (begins-low j k w) i h = way-first b no_lane g low _ _ (λ _. i.line.0) st w
-  turn-first o u c st (high-on w) i h = way-first b (sending high) g high _ _ (λ q. line-free high (h q)) st w
-  turn-first o u c st (low-on w) i h = way-first b (sending low) g low _ _ (λ q. line-free low (h q)) st w
+  turn-first o u c st (begins-high k w) i h = way-first b None g high _ _ (λ _. i.line.0) st w
+  turn-first o u c st (begins-low j k w) i h = way-first b None g low _ _ (λ _. i.line.0) st w
+  turn-first o u c st (high-on w) i h = way-first b (Some high) g high _ _ (λ q. line-free high (h q)) st w
+  turn-first o u c st (low-on w) i h = way-first b (Some low) g low _ _ (λ q. line-free low (h q)) st w
 
-next-first : (b : Bool) (g : Agreed) (w : Station) → Sound g w → (b ≡ true → w.end.state.on ≡ no_lane)
+next-first : (b : Bool) (g : Agreed) (w : Station) → Sound g w → (b ≡ true → w.end.state.on ≡ None)
     → Begins b w.end.state.on (next w.end).state.on (next w.end).out
 next-first b g w s h =
     let e = w.end in
@@ -70,9 +71,9 @@ unfolding put_frame
 load-on g low p w s = by-load g low p w (λ v. v.end.state.on ≡ w.end.state.on) s.agrees refl (λ _. refl)
 load-on g high p w s = by-load g high p w (λ v. v.end.state.on ≡ w.end.state.on) s.agrees refl (λ _. refl)
 
-writes-first : (b : Bool) (o : Out) (w v : Station) (es : List Written) → (b ≡ true → w.end.state.on ≡ no_lane)
+writes-first : (b : Bool) (o : Out) (w v : Station) (es : List Written) → (b ≡ true → w.end.state.on ≡ None)
     → Begins b w.end.state.on v.end.state.on o
-    → ((c : Bool) → (c ≡ true → v.end.state.on ≡ no_lane) → frame_began_ff c (written_octets es) ≡ false)
+    → ((c : Bool) → (c ≡ true → v.end.state.on ≡ None) → frame_began_ff c (written_octets es) ≡ false)
     → frame_began_ff b (written_octets (writes o w es)) ≡ false
 writes-first true (closes l) w v es h k f = f true (λ _. k)
 writes-first false (closes l) w v es h k f = f true (λ _. k)
@@ -84,7 +85,7 @@ writes-first b sends_nothing w v es h k f = f b (λ q. k ∙ h q)
 writes-first b (refuses n) w v es h k f = f b (λ q. k ∙ h q)
 
 -- b: nothing of a frame was written since the last flag
-pub never-FF : (g : Agreed) (b : Bool) (w : Station) (cs : List SenderCall) → Sound g w → (b ≡ true → w.end.state.on ≡ no_lane)
+pub never-FF : (g : Agreed) (b : Bool) (w : Station) (cs : List SenderCall) → Sound g w → (b ≡ true → w.end.state.on ≡ None)
     → frame_began_ff b (written_octets (written w cs)) ≡ false
 unfolding written after_next
 never-FF g b w [] s h = refl

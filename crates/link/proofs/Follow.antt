@@ -9,18 +9,18 @@ use borrow.Author.Tests.{eqb-true, lt-ltb, le-ltb, eq-eqb, ne_eqb}
 use lib.Dec.{ltb, eqb}
 use lib.ListN.{length, take, drop, get_or, replicate, length-append, length-drop, length-replicate}
 use lib.Seq.{take-add, drop-cons, take-append_seam, take-take, get_or-drop}
+use Rattle.std.specs.Prelude.{None}
 use Rattle.fcs.specs.CheckSequence.{Sound, register, fcs, good}
 use Rattle.fcs.proofs.Laws.{fcs-length, good-frame}
-use Rattle.cobs.specs.CodeBlocks.{frame, with_phantom, flag, meaning}
+use Rattle.cobs.specs.CodeBlocks.{frame, with_phantom, flag, meaning, in_row}
 use Rattle.cobs.specs.declared.Choice.{Choice}
-use Rattle.cobs.specs.declared.Meaning.TheVariants.{InTable}
 use Rattle.cobs.proofs.Tests.{branch, decide}
 use Rattle.cobs.proofs.Table.{Row, plain_row, row_read, numbers}
 use Rattle.cobs.proofs.Chosen.{Stands}
 use Rattle.cobs.proofs.Frame.{zeros-from}
 use Rattle.link.specs.Agreed.{Settings, Agreed, agreed, least_packet, least_frame, most_decoded}
 use Rattle.link.specs.Answers.{held, packet, refused}
-use Rattle.link.specs.Receiver.{Fragment, nothing_held, holds, LastBlock, no_block, block_d0, other_block, Receiver, Working, ReceiverEnd, with_due, step2_begin_block, is_no_block, is_d0, write, step3_write, step3_decode, step3_data, last_block, step2_by_meaning, step2_code, let_go, step1_resume, step1_resume_held, step1_d1, step1_first_octet, steps_1_to_4, is_held, step5_end, step5_hold, step5_without_phantom, step5_flag, at_flag, area_of, work, aside, put_back, flagged}
+use Rattle.link.specs.Receiver.{Held, holds, LastBlock, no_block, block_d0, other_block, Receiver, Working, ReceiverEnd, with_due, step2_begin_block, is_no_block, is_d0, write, step3_write, step3_decode, step3_data, last_block, step2_by_meaning, step2_code, let_go, step1_resume, step1_resume_held, step1_d1, step1_first_octet, steps_1_to_4, is_held, step5_end, step5_hold, step5_without_phantom, step5_flag, at_flag, area_of, work, aside, put_back, flagged}
 use Rattle.link.specs.Runs.{packet_in}
 use Rattle.link.proofs.Cobs.{cobs_receive}
 use Rattle.link.proofs.Tests.{if-so, if-not, true-false, not-not}
@@ -71,7 +71,7 @@ module _ (g : Agreed) where
       (λ e. if-so _ _ _ e ∙ (if-not _ _ _ (ne_eqb x 0xFF k) ∙ if-not _ _ _ (ne_eqb x 0xD1 h)))
       (λ e. if-not _ _ _ e ∙ if-not _ _ _ (le-ltb 0 w.state.left (omega arith)))
 
-  pub code_is : (w : Working) (c n z : ℕ) → meaning g.zxe c ≡ InTable n z → step2_code g w c ≡ step2_by_meaning g w c (InTable n z)
+  pub code_is : (w : Working) (c n z : ℕ) → meaning g.zxe c ≡ in_row n z → step2_code g w c ≡ step2_by_meaning g w c (in_row n z)
   unfolding step2_code
   code_is w c n z e = ap (step2_by_meaning g w c) e
 
@@ -346,10 +346,10 @@ module _ (g : Agreed) (e : ReceiverEnd) (z : Ready g e) where
     reports = rw delivers (ap some delivered)
 
     -- what was held stays so, unless the frame was a resumed one
-    pub delivers-held : (cobs_receive e flag).after.state.held ≡ cond r.resumed nothing_held r.held
+    pub delivers-held : (cobs_receive e flag).after.state.held ≡ cond r.resumed None r.held
     delivers-held =
         rw delivers
-        (by_end (λ (s : Receiver). s.held ≡ cond r.resumed nothing_held r.held) r (λ k. sym (if-so _ _ _ k)) (λ k. sym (if-not _ _ _ k)))
+        (by_end (λ (s : Receiver). s.held ≡ cond r.resumed None r.held) r (λ k. sym (if-so _ _ _ k)) (λ k. sym (if-not _ _ _ k)))
 
     pub delivers-holding : (d : List ℕ) (pos : ℕ) → Holding d pos e → Holding d pos (cobs_receive e flag).after
     delivers-holding d pos h =
@@ -393,7 +393,7 @@ module _ (g : Agreed) (e : ReceiverEnd) (z : Ready g e) where
       → step1_d1 g (aside e) r ≡ step1_resume pos (let_go r)
   unfolding step1_d1 step1_resume_held
   resume-is pos k h pre same =
-      if-so _ _ _ pre ∙ (ap (λ (f : Fragment). step1_resume_held g (aside e) f r) h ∙ if-so _ _ _ (eq-eqb _ k same))
+      if-so _ _ _ pre ∙ (ap (λ (f : Held). step1_resume_held g (aside e) f r) h ∙ if-so _ _ _ (eq-eqb _ k same))
 
   pub resumes : (d : List ℕ) (pos : ℕ) → Holding d pos e → r.framed ≡ false → g.pre ≡ true → pos < length d
       → Follows d pos 0 0 (work (put_back e (steps_1_to_4 g (aside e) (work e) 0xD1)))

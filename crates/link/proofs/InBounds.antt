@@ -8,11 +8,12 @@ use Prim.Native.Nat.{ℕ}
 use native.Mathlib.Omega.{arith}
 use lib.Dec.{ltb}
 use lib.ListN.{length}
+use Rattle.std.specs.Prelude.{Some, None}
 use Rattle.cobs.proofs.Tests.{branch, decide}
 use Rattle.link.specs.Agreed.{Settings, Agreed, agreed, valid, least_packet, largest_frame, most_decoded}
 use Rattle.link.specs.Answers.{refused}
 use Rattle.link.specs.Sender.{Lane, low, high, OnLine, LaneState, Sender, SenderEnd, Step, Load, out_answer, lane_area, lane_state, loaded, next, put_frame, load, in_bounds}
-use Rattle.link.specs.Receiver.{PlainReading, reading_off, reading_on, ReceiverEnd, Receive, receive}
+use Rattle.link.specs.Receiver.{PlainReading, ReceiverEnd, Receive, receive}
 use Rattle.link.specs.Receiver as receiver
 use Rattle.link.specs.Runs.{SenderCall, loading, next_octet, Station, fresh_station, sender_answers, after_load, after_next, receives}
 use Rattle.link.specs.Demands.{KeepBounds, NeverOutOfBounds, fresh_receiver}
@@ -55,8 +56,8 @@ never-3 (x ∷ xs) e v b m =
 
 fresh-3 : (t : Settings) (reading : PlainReading) → valid (agreed t) ≡ true → (a b xs : List ℕ)
     → Memᴰ (refused 3) (map (λ (h : Receive). h.report) (receives (fresh_receiver t reading a b) xs)) → ⊥
-fresh-3 t reading_off v a b xs = never-3 xs _ v (heard.in_bounds_lem _ _ refl (λ _. refl) (heard.fresh_in (agreed t) t _ _ _ _ tt))
-fresh-3 t (reading_on map) v a b xs = never-3 xs _ v (heard.in_bounds_lem _ _ refl (λ q. absurd (omega arith)) (heard.fresh_in (agreed t) t _ _ _ _ tt))
+fresh-3 t None v a b xs = never-3 xs _ v (heard.in_bounds_lem _ _ refl (λ _. refl) (heard.fresh_in (agreed t) t _ _ _ _ tt))
+fresh-3 t (Some map) v a b xs = never-3 xs _ v (heard.in_bounds_lem _ _ refl (λ q. absurd (omega arith)) (heard.fresh_in (agreed t) t _ _ _ _ tt))
 
 -- ---- the sender
 

@@ -6,14 +6,15 @@ use mathlib.Core.Option.{Option, none, some}
 use Prim.Native.Nat.{ℕ, ◌+◌, ◌-◌, ◌≤◌, ◌<◌}
 use native.Mathlib.Omega.{arith}
 use lib.ListN.{length, drop, get_or}
+use Rattle.std.specs.Prelude.{Some, None}
 use Rattle.fcs.specs.CheckSequence as check
 use Rattle.cobs.specs.CodeBlocks.{frame, with_phantom, flag, to_line, choice}
 use Rattle.cobs.proofs.Exchange.{no_flag, from-line, turned-back}
 use Rattle.cobs.proofs.Table.{numbers}
 use Rattle.link.specs.Agreed.{Settings, Agreed, largest_frame, most_decoded}
 use Rattle.link.specs.Answers.{Answer, held, refused}
-use Rattle.link.specs.Sender.{Lane, low, high, OnLine, no_lane, sending, LaneState, Out, closes, breaks_off, sends, sends_nothing, refuses, Step, lane_d, next, put_frame}
-use Rattle.link.specs.Receiver.{Fragment, nothing_held, Working, ReceiverEnd, Receive, is_held, work, aside, put_back, steps_1_to_4}
+use Rattle.link.specs.Sender.{Lane, low, high, OnLine, LaneState, Out, closes, breaks_off, sends, sends_nothing, refuses, Step, lane_d, next, put_frame}
+use Rattle.link.specs.Receiver.{Working, ReceiverEnd, Receive, is_held, work, aside, put_back, steps_1_to_4, Held}
 use Rattle.link.specs.Runs.{Lanes, Station, lane_packet, after_load, after_step, after_next, Written, ends_its_frame, aside_after, replaces_after, Arrives, ExpectedReport}
 use Rattle.link.proofs.Cobs.{cobs_receive}
 use Rattle.link.proofs.Tests.{true-false, false-true}
@@ -150,11 +151,11 @@ OnLow true true s q a n z e = s ≡ false
 
 -- With no lane on the line the receiver is out of a frame, with the high one it follows.
 abbrev pub Along : OnLine → (suspended cut aside : Bool) → Bool → Station → ReceiverEnd → Type 0
-Along no_lane u c b s w e = (e.state.framed ≡ false) × HeldLow u b s w.end.state.low w.end.low e
-Along (sending high) u c b s w e =
+Along None u c b s w e = (e.state.framed ≡ false) × HeldLow u b s w.end.state.low w.end.low e
+Along (Some high) u c b s w e =
     Follows (lane_d w.end.state.high w.end.high) w.end.state.high.position w.end.state.left w.end.state.zeros (work e)
     × HeldLow u b s w.end.state.low w.end.low e
-Along (sending low) u c b s w e = OnLow b c s w.end.state.low w.end.low w.end.state.left w.end.state.zeros e
+Along (Some low) u c b s w e = OnLow b c s w.end.state.low w.end.low w.end.state.left w.end.state.zeros e
 
 -- b: the low packet is the one that was under way at the chosen flag, m; s: the next fragment that is held takes an older one's place
 pub record Lock (g : Agreed) (m : Option (List ℕ)) (b s : Bool) (w : Station) (e : ReceiverEnd) : Type 0 where
@@ -234,7 +235,7 @@ module _ (g : Agreed) (law : check.Sound g.check) (q : LaneState) (a : List ℕ)
         is = ap is_held (delivers-held g e z p law st.big (whole-frame p st fo)) ∙ (still e.state.resumed e.state.held ∙ k);
       }
     where
-      still : (b : Bool) (h : Fragment) → is_held (cond b nothing_held h) ≡ (not b && is_held h)
+      still : (b : Bool) (h : Held) → is_held (cond b None h) ≡ (not b && is_held h)
       still true h = refl
       still false h = refl
 
@@ -255,7 +256,7 @@ all-covered q a n z e h r fo =
 
 module _ (g : Agreed) (law : check.Sound g.check) (m : Option (List ℕ)) (ql qh : LaneState) (n z : ℕ) (t : Settings) (al ah : List ℕ) (bl bh : Option (List ℕ)) (e : ReceiverEnd) where
   -- steps 3 to 6 of the high lane
-  lock-high : (u b s : Bool) → (let v = sender ql qh n z (sending high) u false t in
+  lock-high : (u b s : Bool) → (let v = sender ql qh n z (Some high) u false t in
       let w = station v al ah bl bh in
       Sound g w → Lock g m b s w e → (st : Step) → Way g high v (lane_d qh ah) st → Leads g m b s st.out w.lanes ql.position (after_step w st) e)
   lock-high u b s i k st (ends over) =
@@ -290,7 +291,7 @@ module _ (g : Agreed) (law : check.Sound g.check) (m : Option (List ℕ)) (ql qh
 
   -- a flag that breaks off a packet begun after the chosen flag,
   breaks : (s : Bool) (n' z' i j : ℕ) → Ready g e → Follows (lane_d ql al) ql.position n' z' (work e) → Replaces s e → 0 < n' → g.pre ≡ true
-      → LedBy g m false s (record { out = breaks_off; octet = flag; sent_for = bl; low_position = ql.position }) (station (sender ql qh i j no_lane true false t) al ah bl bh) e
+      → LedBy g m false s (record { out = breaks_off; octet = flag; sent_for = bl; low_position = ql.position }) (station (sender ql qh i j None true false t) al ah bl bh) e
   breaks s n' z' i j r fo rep left pre =
       let end = flag-ends g e r in (
         record {
@@ -307,7 +308,7 @@ module _ (g : Agreed) (law : check.Sound g.check) (m : Option (List ℕ)) (ql qh
 
   -- and one under way at it
   breaks-aside : (s : Bool) (i j : ℕ) → Ready g e → bl ≡ m → s ≡ false
-      → LedBy g m true s (record { out = breaks_off; octet = flag; sent_for = bl; low_position = ql.position }) (station (sender ql qh i j no_lane true false t) al ah bl bh) e
+      → LedBy g m true s (record { out = breaks_off; octet = flag; sent_for = bl; low_position = ql.position }) (station (sender ql qh i j None true false t) al ah bl bh) e
   breaks-aside s i j r whose none-s =
       let end = flag-ends g e r in (
         aside-flag g breaks_off bl m s ql.position e r refl whose (sym none-s),
@@ -315,7 +316,7 @@ module _ (g : Agreed) (law : check.Sound g.check) (m : Option (List ℕ)) (ql qh
       )
 
   -- of the low lane, a packet begun after the chosen flag,
-  lock-low : (s : Bool) → (let v = sender ql qh n z (sending low) false false t in
+  lock-low : (s : Bool) → (let v = sender ql qh n z (Some low) false false t in
       let w = station v al ah bl bh in
       Sound g w → Lock g m false s w e → (st : Step) → Way g low v (lane_d ql al) st → Leads g m false s st.out w.lanes ql.position (after_step w st) e)
   lock-low s i k st (ends over) =
@@ -356,7 +357,7 @@ module _ (g : Agreed) (law : check.Sound g.check) (m : Option (List ℕ)) (ql qh
       )
 
   -- and one under way at it
-  lock-aside : (s : Bool) → (let v = sender ql qh n z (sending low) false false t in
+  lock-aside : (s : Bool) → (let v = sender ql qh n z (Some low) false false t in
       let w = station v al ah bl bh in
       Sound g w → Lock g m true s w e → (st : Step) → Way g low v (lane_d ql al) st → Leads g m true s st.out w.lanes ql.position (after_step w st) e)
   lock-aside s i k st (ends over) =
@@ -414,8 +415,8 @@ module _ (g : Agreed) (law : check.Sound g.check) (m : Option (List ℕ)) (ql qh
   D1-steps : Ready g e → e.state.framed ≡ false → InStep 0 (cobs_receive e 0xD1).after.state
   D1-steps r out = rw (passes-plain g e r 0xD1 (λ q. omega arith) (λ q. omega arith)) (D1-in-step g e r out)
 
-  resumed-low : (b s : Bool) → Sound g (station (sender ql qh n z no_lane true false t) al ah bl bh)
-      → Lock g m b s (station (sender ql qh n z no_lane true false t) al ah bl bh) e
+  resumed-low : (b s : Bool) → Sound g (station (sender ql qh n z None true false t) al ah bl bh)
+      → Lock g m b s (station (sender ql qh n z None true false t) al ah bl bh) e
       → OnLow b false s ql al n z (cobs_receive e 0xD1).after
   resumed-low false s i k =
       let none-left = i.in-bounds.line in (
@@ -427,12 +428,12 @@ module _ (g : Agreed) (law : check.Sound g.check) (m : Option (List ℕ)) (ql qh
   -- whichever step applies
   lock-turn : (o : OnLine) (u c b s : Bool) (st : Step) → Turn g ql qh n z t al ah o u c st → (let w = station (sender ql qh n z o u c t) al ah bl bh in
       Sound g w → Lock g m b s w e → Leads g m b s st.out w.lanes ql.position (after_step w st) e)
-  lock-turn no_lane u c b s st cut-due i k = true-false i.in-bounds.line.2
-  lock-turn (sending high) u c b s st cut-due i k = true-false i.in-bounds.line.1
-  lock-turn (sending low) u c false s st cut-due i k =
+  lock-turn None u c b s st cut-due i k = true-false i.in-bounds.line.2
+  lock-turn (Some high) u c b s st cut-due i k = true-false i.in-bounds.line.1
+  lock-turn (Some low) u c false s st cut-due i k =
       let wait : Waiting g ql = i.line.0 in
       breaks s 1 1 n z k.ready k.along.0 k.along.1 (omega arith) wait.pre
-  lock-turn (sending low) u c true s st cut-due i k = breaks-aside s n z k.ready (k.whose refl) k.along
+  lock-turn (Some low) u c true s st cut-due i k = breaks-aside s n z k.ready (k.whose refl) k.along
   lock-turn o u c b s st (idles f h) i k = k
   lock-turn o u c b s st (resumes-low f h) i k = (
     quiet-send g low 0xD1 bl m b s ql.position e k.ready (λ q. omega arith),

@@ -10,6 +10,7 @@ use native.Mathlib.Omega.{arith}
 use borrow.Author.Tests.{le-ltb, lt-ltb, eq-eqb, ne_eqb}
 use lib.Dec.{ltb, eqb}
 use lib.ListN.{length, take, drop, replicate, length-replicate}
+use Rattle.std.specs.Prelude.{None}
 use Rattle.fcs.specs.Notation.{◌⊕◌}
 use Rattle.fcs.specs.CheckSequence.{bit_step, bit_steps, entry, octet_step, feed, register, low_first, fcs, good}
 use Rattle.cobs.specs.CodeBlocks.{flag, in_range, code_table, meaning, to_line, from_line, leading, choice}
@@ -20,7 +21,7 @@ use Rattle.link.specs.Agreed.{Agreed, agreed, least_frame, most_decoded, Setting
 use Rattle.link.specs.Answers.{refused}
 use Rattle.link.specs.Sender.{put_frame, load, step4_break_off, step5_data, step6_code, steps_3_to_6, step2_no_lane, steps_1_to_6, next}
 use Rattle.link.specs.Sender as sender
-use Rattle.link.specs.Receiver.{reading_off, Working, ReceiverEnd, Receive, Ended, is_no_block, is_d0, step3_decode, step3_data, step2_by_meaning, step2_code, step1_resume_held, step1_d1, step1_first_octet, steps_1_to_4, step5_without_phantom, step5_flag, at_flag, work, aside, put_back, flagged, receive}
+use Rattle.link.specs.Receiver.{Working, ReceiverEnd, Receive, Ended, is_no_block, is_d0, step3_decode, step3_data, step2_by_meaning, step2_code, step1_resume_held, step1_d1, step1_first_octet, steps_1_to_4, step5_without_phantom, step5_flag, at_flag, work, aside, put_back, flagged, receive}
 use Rattle.link.specs.Receiver as receiver
 use Rattle.link.specs.ReceiverParts.{ReceiverReady}
 use Rattle.link.specs.Runs.{after_load, after_next, run, written, receives, not_quiet, received, under_way, left_aside}
@@ -147,7 +148,7 @@ module _ (m : ℕ) (t : Settings) (v : valid (agreed t) ≡ true) (zxe : (agreed
   long-enough = omega (arith, length-replicate {A = ℕ} (most_decoded g) 0)
 
   fresh-off : ReceiverReady (fresh_end t)
-  fresh-off = fresh-ready t reading_off v (receiver_area t) (receiver_area t) long-enough long-enough
+  fresh-off = fresh-ready t None v (receiver_area t) (receiver_area t) long-enough long-enough
 
   many : Decoded g (15 * m) (cobs_received (fresh_end t) line)
   many =

@@ -5,25 +5,25 @@ use mathlib.Core.List.{List, [], ◌∷◌, ◌++◌, map, flat_map, append_asso
 use mathlib.Core.Logic.{◌⊎◌, ⊎_elim}
 use Prim.Native.Nat.{ℕ, ◌+◌, ◌-◌, ◌≤◌, ◌<◌}
 use native.Mathlib.Omega.{arith}
-use borrow.Author.Tests.{ltb-false, lt-ltb, le-ltb, ne_eqb}
+use borrow.Author.Tests.{lt-ltb, le-ltb, ne_eqb}
 use lib.Dec.{ltb, eqb}
 use lib.ListN.{length, take, replicate, length-append}
 use lib.Seq.{take-append_seam}
+use Rattle.std.specs.Prelude.{Some, Result, Ok, Err}
 use Rattle.fcs.specs.CheckSequence.{Check, fcs}
 use Rattle.fcs.proofs.Laws.{good-frame}
 use Rattle.cobs.specs.CodeBlocks.{flag, frame}
 use Rattle.cobs.proofs.Tests.{branch, decide}
-use Rattle.plain.specs.declared.Sent.TheVariants.{Written as written, Refused as refused_send}
 use Rattle.plain.specs.Maps.{removed, marked, refused_pair, marks_ok}
-use Rattle.plain.specs.Stuffing.{Send, stuffed}
+use Rattle.plain.specs.Stuffing.{stuffed}
 use Rattle.plain.specs.ReadBack.{Unstuffed, unstuffed, ReadsBack, kept}
-use Rattle.plain.proofs.Laws.{line-is, stuffed-cons, unmarked-octet, sends, pair-lacks, pair-wrongly, framing-lacks, framing-ok, not-removed, taken-plainly, taken-removed, unstuffed-nil, kept-nil, kept-removed, kept-other}
+use Rattle.plain.proofs.Laws.{line-is, stuffed-cons, unmarked-octet, pair-lacks, pair-wrongly, framing-lacks, framing-ok, not-removed, taken-plainly, taken-removed, unstuffed-nil, kept-nil, kept-removed, kept-other}
 use Rattle.plain.proofs.ReadBack.{sent-reads-back, removed-leave-no-trace}
-use Rattle.link.specs.Agreed.{Settings, Agreed, agreed, least_packet, valid_width, valid_limit, valid, least_frame, largest_frame}
+use Rattle.link.specs.Agreed.{Settings, limit_refused, width_refused, Agreed, agreed, least_packet, valid_width, valid_limit, valid, least_frame, largest_frame}
 use Rattle.link.specs.Answers.{quiet, is_quiet}
-use Rattle.link.specs.Receiver.{cobs, plain, reading_on, Opening, opened, opened_receiver, Receiver, ReceiverEnd, Receive, Working, no_block, is_plain, is_escaped, in_frame, with_mode, with_decoded, write, plain_data, plain_octet, plain_taken, work, quietly, receive}
+use Rattle.link.specs.Receiver.{cobs, plain, opened_receiver, Receiver, ReceiverEnd, Receive, Working, no_block, is_plain, is_escaped, in_frame, with_mode, with_decoded, write, plain_data, plain_octet, plain_taken, work, quietly, receive}
 use Rattle.link.specs.ReceiverParts.{ReceiverReady}
-use Rattle.link.specs.PlainSender.{PlainSender, plain_agreed, plain_line, plain_send, open_pair}
+use Rattle.link.specs.PlainSender.{PairError, SendError, wrong_length, no_room, out_of_bounds, PlainSent, PlainSender, plain_agreed, plain_line, send_with, plain_send, open_pair}
 use Rattle.link.specs.Runs.{receives, received, not_quiet}
 use Rattle.link.specs.Demands.{ReportAndPacket, report_and_packet, cleared, OutOfCobsFrame}
 use Rattle.link.specs.PlainReading.{AllowedLength, PlainSends, PairOpens, quiet_answer, told, frame_report, is_empty, OutOfPlainFrame, FrameIsReported, RemovedOctets, answers_to, ComeThrough, AllAllowedLengths, OfPair, PlainFrames}
@@ -40,49 +40,53 @@ use Rattle.link.proofs.Restart.{restart}
 
 -- ---- the plain sender's call
 
+not-both : {Q : Type 0} (n : ℕ) (e : SendError) → ◌≡◌ {A = Result ℕ SendError} (Ok n) (Err e) → Q
+not-both n e q = cc
+
 module _ (s : PlainSender) (p area : List ℕ) where
   abbrev g : Agreed
   g = plain_agreed s
 
-  send-settings : valid g ≡ false → (plain_send s p area).answer ≡ refused_send 3
-  unfolding plain_send
+  send-settings : valid g ≡ false → (plain_send s p area).answer ≡ Err out_of_bounds
+  unfolding plain_send send_with
   send-settings v = rw v
 
   module _ (v : valid g ≡ true) where
-    send-exactly : length area < length (plain_line s p) → (plain_send s p area).answer ≡ refused_send 2
-    unfolding plain_send
+    send-exactly : length area < length (plain_line s p) → (plain_send s p area).answer ≡ Err no_room
+    unfolding plain_send send_with
     send-exactly h = rw (v, lt-ltb _ _ h)
 
     module _ (h : length (plain_line s p) ≤ length area) where
-      send-map : marks_ok s.marks ≡ false → (plain_send s p area).answer ≡ refused_send 3
-      unfolding plain_send
+      send-map : marks_ok s.marks ≡ false → (plain_send s p area).answer ≡ Err out_of_bounds
+      unfolding plain_send send_with
       send-map m = rw (v, le-ltb _ _ h, m)
 
       module _ (m : marks_ok s.marks ≡ true) where
-        send-other : (length p < least_packet) ⊎ (g.limit < length p) → (plain_send s p area).answer ≡ refused_send 1
-        unfolding plain_send
-        send-other k = rw (v, le-ltb _ _ h, m) (ap (λ (t : Send). t.answer) (if-so _ _ _ (short-or-long k)))
+        send-other : (length p < least_packet) ⊎ (g.limit < length p) → (plain_send s p area).answer ≡ Err wrong_length
+        unfolding plain_send send_with agreed
+        send-other k = rw (v, le-ltb _ _ h, m) (ap (λ (t : PlainSent). t.answer) (if-so _ _ _ (short-or-long k)))
           where
             short-or-long : (length p < least_packet) ⊎ (g.limit < length p) → (ltb (length p) least_packet || ltb g.limit (length p)) ≡ true
             short-or-long = ⊎_elim (λ l. rw (lt-ltb _ _ l)) (λ l. rw (lt-ltb _ _ l) (or-true (ltb (length p) least_packet)))
 
-        send-writes : AllowedLength g p → plain_send s p area ≡ record { answer = written (length (plain_line s p)); area = write area 0 (plain_line s p) }
-        unfolding plain_send
-        send-writes a = rw (v, le-ltb _ _ h, m, le-ltb _ _ a.least, le-ltb _ _ a.most) (sends s.marks (frame g.check p) area h)
+        send-writes : AllowedLength g p → plain_send s p area ≡ record { answer = Ok (length (plain_line s p)); area = write area 0 (plain_line s p) }
+        unfolding plain_send send_with agreed
+        send-writes a = rw (v, le-ltb _ _ h, m, le-ltb _ _ a.least, le-ltb _ _ a.most)
 
-  send-refused : (n : ℕ) → (plain_send s p area).answer ≡ refused_send n → (plain_send s p area).area ≡ area
-  unfolding plain_send
-  send-refused n =
-      let P : Send → Type 0 = λ t. t.answer ≡ refused_send n → t.area ≡ area in
+  send-refused : (e : SendError) → (plain_send s p area).answer ≡ Err e → (plain_send s p area).area ≡ area
+  unfolding plain_send send_with
+  send-refused e =
+      let P : PlainSent → Type 0 = λ t. t.answer ≡ Err e → t.area ≡ area in
       branch P (not (valid g)) (λ _ _. refl)
       (λ _. branch P (ltb (length area) (length (plain_line s p))) (λ _ _. refl)
-      (λ k. branch P (not (marks_ok s.marks)) (λ _ _. refl)
-      (λ _. branch P (ltb (length p) least_packet || ltb g.limit (length p)) (λ _ _. refl)
-      (λ _. rw (sends s.marks (frame g.check p) area (ltb-false _ _ k)) (λ q. absurd (let z : ◌≡◌ {A = ℕ} 0 1 = cc in omega arith))))))
+      (λ _. branch P (not (marks_ok s.marks)) (λ _ _. refl)
+      (λ _. branch P (ltb (length p) least_packet || ltb s.limit (length p)) (λ _ _. refl)
+      (λ _ q. not-both _ e q))))
 
 pub plain-sends : PlainSends
 plain-sends =
     record {
+      numbers = (refl, refl, refl);
       settings = send-settings;
       exactly = send-exactly;
       map = send-map;
@@ -96,6 +100,8 @@ plain-sends =
 pub pair-opens : PairOpens
 pair-opens =
     record {
+      numbers = (refl, refl, refl);
+      as_opening = elim [ limit_refused ↦ refl | width_refused ↦ refl ];
       limit = λ t map marks n. rw n;
       width = λ t map marks l w. rw (l, w);
       maps = λ t map marks v r. rw (valid-limit (agreed t) v, valid-width (agreed t) v, r);
@@ -282,11 +288,11 @@ module _ (t : Settings) (i : ℕ) (marks : List ℕ) (long : length marks ≡ 32
 -- ---- the theorem
 
 -- the maps of a pair that is opened
-not-refused : (t : Settings) (i : ℕ) (marks : List ℕ) → (open_pair t i marks).receiver ≡ opened (opened_receiver t (reading_on i)) → refused_pair i marks ≡ false
+not-refused : (t : Settings) (i : ℕ) (marks : List ℕ) → (open_pair t i marks).receiver ≡ Ok (opened_receiver t (Some i)) → refused_pair i marks ≡ false
 not-refused t i marks =
-    branch (λ (o : Opening). o ≡ opened (opened_receiver t (reading_on i)) → refused_pair i marks ≡ false) (not (valid_limit (agreed t))) (λ _ q. absurd (let z : ◌≡◌ {A = ℕ} 0 1 = cc in omega arith))
-    (λ _. branch (λ (o : Opening). o ≡ opened (opened_receiver t (reading_on i)) → refused_pair i marks ≡ false) (not (valid_width (agreed t))) (λ _ q. absurd (let z : ◌≡◌ {A = ℕ} 0 1 = cc in omega arith))
-    (λ _. branch (λ (o : Opening). o ≡ opened (opened_receiver t (reading_on i)) → refused_pair i marks ≡ false) (refused_pair i marks) (λ _ q. absurd (let z : ◌≡◌ {A = ℕ} 0 1 = cc in omega arith))
+    branch (λ (o : Result Receiver PairError). o ≡ Ok (opened_receiver t (Some i)) → refused_pair i marks ≡ false) (not (valid_limit (agreed t))) (λ _ q. absurd (let z : ◌≡◌ {A = ℕ} 0 1 = cc in omega arith))
+    (λ _. branch (λ (o : Result Receiver PairError). o ≡ Ok (opened_receiver t (Some i)) → refused_pair i marks ≡ false) (not (valid_width (agreed t))) (λ _ q. absurd (let z : ◌≡◌ {A = ℕ} 0 1 = cc in omega arith))
+    (λ _. branch (λ (o : Result Receiver PairError). o ≡ Ok (opened_receiver t (Some i)) → refused_pair i marks ≡ false) (refused_pair i marks) (λ _ q. absurd (let z : ◌≡◌ {A = ℕ} 0 1 = cc in omega arith))
     (λ r _. r)))
 
 frames-through : (t : Settings) (i : ℕ) (marks : List ℕ) (e : ReceiverEnd) → OfPair t i marks e → is_plain e.state.mode ≡ true

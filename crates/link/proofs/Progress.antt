@@ -7,13 +7,14 @@ use native.Mathlib.Omega.{arith}
 use borrow.Author.Tests.{le-ltb, lt-ltb, eq-eqb, ne_eqb, ltb-true, ltb-false}
 use lib.Dec.{ltb}
 use lib.ListN.{length, replicate, drop, length-append, length-drop}
+use Rattle.std.specs.Prelude.{Some, None}
 use Rattle.cobs.specs.CodeBlocks.{frame, choice}
 use Rattle.cobs.specs.declared.Choice.{Choice}
 use Rattle.cobs.proofs.Tests.{branch, decide, and_right}
 use Rattle.cobs.proofs.Frame.{longest, longest-frame, longest-part, block-cost}
 use Rattle.link.specs.Agreed.{Settings, Agreed, agreed, largest_frame}
 use Rattle.link.specs.Answers.{idle, octet}
-use Rattle.link.specs.Sender.{Lane, low, high, OnLine, no_lane, sending, LaneState, Sender, SenderEnd, Step, out_answer, loaded, lane_area, lane_d, steps_1_to_6, next, put_frame}
+use Rattle.link.specs.Sender.{Lane, low, high, OnLine, LaneState, Sender, SenderEnd, Step, out_answer, loaded, lane_area, lane_d, steps_1_to_6, next, put_frame}
 use Rattle.link.specs.SenderParts.{SenderReady}
 use Rattle.link.specs.Runs.{Station, SenderCall, loading, next_octet, loaded_by, after_load, after_next, run}
 use Rattle.link.specs.Progress.{BothEmpty, IdleIfEmpty, calls_for, Emptied}
@@ -127,9 +128,9 @@ module _ (g : Agreed) (ql qh : LaneState) (n z : ℕ) (t : Settings) (al ah : Li
 
   turn-empty : (o : OnLine) (u c : Bool) (st : Step) → Turn g ql qh n z t al ah o u c st → bounds.Bounds g (sender ql qh n z o u c t)
       → ql.length ≡ 0 → qh.length ≡ 0 → out_answer st.out ≡ idle
-  turn-empty no_lane u c st cut-due b i j = true-false b.line.2
-  turn-empty (sending high) u c st cut-due b i j = true-false b.line.1
-  turn-empty (sending low) u c st cut-due b i j = absurd (omega (arith, b.line.0.loaded))
+  turn-empty None u c st cut-due b i j = true-false b.line.2
+  turn-empty (Some high) u c st cut-due b i j = true-false b.line.1
+  turn-empty (Some low) u c st cut-due b i j = absurd (omega (arith, b.line.0.loaded))
   turn-empty o u c st (idles h k) b i j = refl
   turn-empty o u c st (resumes-low k h) b i j = absurd (omega arith)
   turn-empty o u c st (begins-high h w) b i j = absurd (omega arith)
@@ -199,10 +200,10 @@ one u = cond u 1 0
 -- At most so many octets are sent until both lanes are empty, if nothing more is loaded. A low lane on the line that is broken off begins its
 -- block again, after 02, the flag and D1.
 due : Agreed → LaneState → LaneState → ℕ → ℕ → OnLine → (suspended cut : Bool) → ℕ
-due g ql qh n z no_lane u c = owed qh + owed ql + one u
-due g ql qh n z (sending high) u c = rest qh.length qh.position n z + 1 + owed ql + one u
-due g ql qh n z (sending low) u true = owed qh + owed ql + 2
-due g ql qh n z (sending low) u false = cond (g.pre && loaded qh) (owed qh + owed ql + 3) (rest ql.length ql.position n z + 1 + owed qh)
+due g ql qh n z None u c = owed qh + owed ql + one u
+due g ql qh n z (Some high) u c = rest qh.length qh.position n z + 1 + owed ql + one u
+due g ql qh n z (Some low) u true = owed qh + owed ql + 2
+due g ql qh n z (Some low) u false = cond (g.pre && loaded qh) (owed qh + owed ql + 3) (rest ql.length ql.position n z + 1 + owed qh)
 
 abbrev due_in : Agreed → Sender → ℕ
 due_in g s = due g s.low s.high s.left s.zeros s.on s.suspended s.cut
@@ -248,8 +249,8 @@ or-true false = refl
 
 module _ (g : Agreed) (ql qh : LaneState) (n z : ℕ) (t : Settings) (al ah : List ℕ) where
   -- steps 3 to 6 leave less to send
-  high-less : (u : Bool) → qh.length ≤ length ah → bounds.Bounds g (sender ql qh n z (sending high) u false t) → (st : Step)
-      → Way g high (sender ql qh n z (sending high) u false t) (lane_d qh ah) st → due_in g st.state < rest qh.length qh.position n z + 1 + owed ql + one u
+  high-less : (u : Bool) → qh.length ≤ length ah → bounds.Bounds g (sender ql qh n z (Some high) u false t) → (st : Step)
+      → Way g high (sender ql qh n z (Some high) u false t) (lane_d qh ah) st → due_in g st.state < rest qh.length qh.position n z + 1 + owed ql + one u
   unfolding due owed
   high-less u fits b st (ends over) = omega arith
   high-less u fits b st (cuts short e pre urgent f) = bounds.low-high e
@@ -260,8 +261,8 @@ module _ (g : Agreed) (ql qh : LaneState) (n z : ℕ) (t : Settings) (al ah : Li
   none-waits true f = le-ltb 0 qh.length (omega (arith, f refl))
   none-waits false f = refl
 
-  low-less : ql.length ≤ length al → bounds.Bounds g (sender ql qh n z (sending low) false false t) → (st : Step)
-      → Way g low (sender ql qh n z (sending low) false false t) (lane_d ql al) st → due_in g st.state < due g ql qh n z (sending low) false false
+  low-less : ql.length ≤ length al → bounds.Bounds g (sender ql qh n z (Some low) false false t) → (st : Step)
+      → Way g low (sender ql qh n z (Some low) false false t) (lane_d ql al) st → due_in g st.state < due g ql qh n z (Some low) false false
   unfolding due owed
   low-less fits b st (ends over) = branch (λ (m : ℕ). owed qh + 0 + 0 < m) (g.pre && loaded qh) (λ _. omega arith) (λ _. omega arith)
   low-less fits b st (cuts short e pre urgent f) = rw (pre, lt-ltb 0 qh.length urgent) (omega arith)
@@ -270,7 +271,7 @@ module _ (g : Agreed) (ql qh : LaneState) (n z : ℕ) (t : Settings) (al ah : Li
       rw (none-waits g.pre (λ e. free refl e)) (omega (arith, shrinks g ql al n z fits b.even x pos n' z' short v))
 
   -- a low lane comes on the line, with nothing in the high one
-  low-enters : qh.length ≡ 0 → 0 < ql.length → n ≡ 0 → z ≡ 0 → due g ql qh n z (sending low) false false ≡ owed ql + owed qh
+  low-enters : qh.length ≡ 0 → 0 < ql.length → n ≡ 0 → z ≡ 0 → due g ql qh n z (Some low) false false ≡ owed ql + owed qh
   unfolding due
   low-enters k h i j = rw (none-waits g.pre (λ _. k)) (omega (arith, owed-loaded ql n z h i j))
 
@@ -278,9 +279,9 @@ module _ (g : Agreed) (ql qh : LaneState) (n z : ℕ) (t : Settings) (al ah : Li
   turn-less : ql.length ≤ length al → qh.length ≤ length ah → (o : OnLine) (u c : Bool) (st : Step) → Turn g ql qh n z t al ah o u c st
       → bounds.Bounds g (sender ql qh n z o u c t) → due_in g st.state ≤ due g ql qh n z o u c - 1
   unfolding due
-  turn-less hl hh no_lane u c st cut-due b = true-false b.line.2
-  turn-less hl hh (sending high) u c st cut-due b = true-false b.line.1
-  turn-less hl hh (sending low) u c st cut-due b = omega arith
+  turn-less hl hh None u c st cut-due b = true-false b.line.2
+  turn-less hl hh (Some high) u c st cut-due b = true-false b.line.1
+  turn-less hl hh (Some low) u c st cut-due b = omega arith
   turn-less hl hh o true c st (idles h k) b = absurd (omega (arith, b.waits refl))
   turn-less hl hh o false c st (idles h k) b = omega (arith, empty-owed qh h, empty-owed ql k)
   turn-less hl hh o u c st (resumes-low k h) b = omega (arith, low-enters k h b.line.0 b.line.1)
@@ -295,24 +296,24 @@ module _ (g : Agreed) (ql qh : LaneState) (n z : ℕ) (t : Settings) (al ah : Li
   -- nothing is due: both lanes are empty
   none-due : (o : OnLine) (u c : Bool) → due g ql qh n z o u c ≡ 0 → (ql.length ≡ 0) × (qh.length ≡ 0)
   unfolding due
-  none-due no_lane u c e = (none-owed ql (omega arith), none-owed qh (omega arith))
-  none-due (sending high) u c e = absurd (omega arith)
-  none-due (sending low) u true e = absurd (omega arith)
-  none-due (sending low) u false e =
+  none-due None u c e = (none-owed ql (omega arith), none-owed qh (omega arith))
+  none-due (Some high) u c e = absurd (omega arith)
+  none-due (Some low) u true e = absurd (omega arith)
+  none-due (Some low) u false e =
       branch (λ (m : ℕ). m ≡ 0 → (ql.length ≡ 0) × (qh.length ≡ 0)) (g.pre && loaded qh) (λ _ i. absurd (omega arith)) (λ _ i. absurd (omega arith)) e
 
   -- no more is due than the calls that are told
   most-due : (o : OnLine) (u c : Bool) → bounds.Bounds g (sender ql qh n z o u c t)
       → due g ql qh n z o u c ≤ calls_for qh.length + calls_for ql.length + cond (loaded ql && (loaded qh || u || c)) 3 0
   unfolding due
-  most-due no_lane true c b = rw (lt-ltb 0 ql.length (b.waits refl), or-true (loaded qh)) (omega (arith, owed-most ql, owed-most qh))
-  most-due no_lane false c b = omega (arith, owed-most ql, owed-most qh)
-  most-due (sending high) true c b =
+  most-due None true c b = rw (lt-ltb 0 ql.length (b.waits refl), or-true (loaded qh)) (omega (arith, owed-most ql, owed-most qh))
+  most-due None false c b = omega (arith, owed-most ql, owed-most qh)
+  most-due (Some high) true c b =
       rw (lt-ltb 0 ql.length (b.waits refl), or-true (loaded qh)) (omega (arith, owed-most ql, rest-most qh n z b.line.0))
-  most-due (sending high) false c b = omega (arith, owed-most ql, rest-most qh n z b.line.0)
-  most-due (sending low) u true b =
+  most-due (Some high) false c b = omega (arith, owed-most ql, rest-most qh n z b.line.0)
+  most-due (Some low) u true b =
       rw (lt-ltb 0 ql.length b.line.0.loaded, or-true (loaded qh || u)) (omega (arith, owed-most ql, owed-most qh))
-  most-due (sending low) u false b =
+  most-due (Some low) u false b =
       branch (λ (m : ℕ). m ≤ calls_for qh.length + calls_for ql.length + cond (loaded ql && (loaded qh || u || false)) 3 0) (g.pre && loaded qh)
       (λ e. rw (lt-ltb 0 ql.length b.line.0.loaded, and_right g.pre (loaded qh) e) (omega (arith, owed-most ql, owed-most qh)))
       (λ _. omega (arith, owed-most qh, rest-most ql n z b.line.0))

@@ -9,16 +9,16 @@ use native.Mathlib.Omega.{arith}
 use borrow.Author.Tests.{ltb-true, ltb-false, leb-true, eqb-true, eqb-false, lt-ltb, le-leb, eq-eqb, ne_eqb, not-true, not-false}
 use lib.Dec.{leb, ltb, eqb}
 use lib.ListN.{length, take, replicate, length-replicate}
+use Rattle.std.specs.Prelude.{Some, None, Ok, Err}
 use Rattle.fcs.specs.CheckSequence.{Sound, width, ones, register, good}
 use Rattle.fcs.proofs.Laws.{register-below}
-use Rattle.cobs.specs.CodeBlocks.{flag, from_line, meaning}
-use Rattle.cobs.specs.declared.Meaning.{Meaning}
-use Rattle.cobs.specs.declared.Meaning.TheVariants.{InTable, NotAgreed, NoCode}
+use Rattle.cobs.specs.CodeBlocks.{flag, from_line, meaning, Meaning}
+use Rattle.cobs.specs.declared.CodeError.TheVariants.{NotAgreed, NoCode}
 use Rattle.cobs.proofs.Tests.{branch, decide, and_left, and_right}
 use Rattle.cobs.proofs.Table.{read-row, numbers}
 use Rattle.link.specs.Agreed.{Settings, Agreed, agreed, valid, least_frame, most_decoded}
 use Rattle.link.specs.Answers.{Answer, done, octet, idle, quiet, packet, held, refused}
-use Rattle.link.specs.Receiver.{Fragment, nothing_held, holds, LastBlock, no_block, block_d0, other_block, Mode, Receiver, Working, ReceiverEnd, Receive, Ended, fresh, out_of_frame, with_due, step2_begin_block, is_no_block, is_d0, is_off, is_plain, let_go, held_ok, fresh_ok, last_block_ok, refusal_ok, mode_ok, in_bounds, step4_remember, step4_refuse, step3_write, step3_decode, step3_data, last_block, step2_by_meaning, step2_code, step1_resume_held, step1_d1, step1_first_octet, steps_1_to_4, frame_over, step5_end, step5_hold, step5_without_phantom, step5_flag, at_flag, area_of, work, aside, put_back, flagged}
+use Rattle.link.specs.Receiver.{Fragment, Held, LastBlock, no_block, block_d0, other_block, Mode, Receiver, Working, ReceiverEnd, Receive, Ended, fresh, out_of_frame, with_due, step2_begin_block, is_no_block, is_d0, is_off, is_plain, let_go, held_ok, fresh_ok, last_block_ok, refusal_ok, mode_ok, frame_ok, in_bounds, step4_remember, step4_refuse, step3_write, step3_decode, step3_data, last_block, step2_by_meaning, step2_code, step1_resume_held, step1_d1, step1_first_octet, steps_1_to_4, frame_over, step5_end, step5_hold, step5_without_phantom, step5_flag, at_flag, area_of, work, aside, put_back, flagged}
 use Rattle.link.proofs.Agreed.{sound-check}
 use Rattle.link.proofs.Cobs.{cobs_receive, not-escaped}
 use Rattle.link.proofs.Tests.{if-so, if-not, ands, true-false, false-true, or_cases}
@@ -26,9 +26,9 @@ use Rattle.link.proofs.Write.{length-write}
 
 -- ---- in bounds, as facts
 
-abbrev pub HeldOk : Agreed → Fragment → Type 0
-HeldOk g nothing_held = Unit {0}
-HeldOk g (holds n k) = (n ≤ most_decoded g) × (k ≤ ones g.check)
+abbrev pub HeldOk : Agreed → Held → Type 0
+HeldOk g None = Unit {0}
+HeldOk g (Some h) = (h.count ≤ most_decoded g) × (h.register ≤ ones g.check)
 
 -- out of a frame
 pub record FreshOk (r : Receiver) : Type 0 where
@@ -55,17 +55,17 @@ pub record Bounds (g : Agreed) (r : Receiver) : Type 0 where
   pub few : r.left ≤ 207
   pub two : r.zeros ≤ 2
   pub refusals : (r.refusal ≡ 0 → ⊥) → Remembered r.refusal
-  pub restart : r.refusal ≡ 5 → r.held ≡ nothing_held
+  pub restart : r.refusal ≡ 5 → r.held ≡ None
   pub out : r.framed ≡ false → FreshOk r
   pub begun : r.framed ≡ true → r.refusal ≡ 0 → LastBlockOk r.last r.resumed r.left r.decoded
 
-some-held : {Q : Type 0} (n k : ℕ) → holds n k ≡ nothing_held → Q
-some-held n k e = absurd (let z : ◌≡◌ {A = ℕ} 0 1 = cc in omega arith)
+some-held : {Q : Type 0} (h : Fragment) → Some h ≡ None → Q
+some-held h e = absurd (let z : ◌≡◌ {A = ℕ} 0 1 = cc in omega arith)
 
 -- the facts make the test true
-held-ok : (g : Agreed) (m : ℕ) (h : Fragment) → HeldOk g h → (m ≡ 5 → h ≡ nothing_held) → held_ok g m h ≡ true
-held-ok g m nothing_held k f = refl
-held-ok g m (holds n i) k f = rw (ne_eqb m 5 (λ e. some-held n i (f e)), le-leb n (most_decoded g) k.0, le-leb i (ones g.check) k.1)
+held-ok : (g : Agreed) (m : ℕ) (h : Held) → HeldOk g h → (m ≡ 5 → h ≡ None) → held_ok g m h ≡ true
+held-ok g m None k f = refl
+held-ok g m (Some h) k f = rw (ne_eqb m 5 (λ e. some-held h (f e)), le-leb h.count (most_decoded g) k.0, le-leb h.register (ones g.check) k.1)
 
 remembered-ok : (n : ℕ) → Remembered n → (leb 5 n && leb n 10 || eqb n 21) ≡ true
 remembered-ok n k = ⊎_elim (λ l. rw (le-leb 5 n k.0, le-leb n 10 l)) (λ e. rw e) k.1
@@ -92,7 +92,7 @@ pub record Counts (g : Agreed) (r : Receiver) : Type 0 where
   pub few : r.left ≤ 207
   pub two : r.zeros ≤ 2
   pub refusals : (r.refusal ≡ 0 → ⊥) → Remembered r.refusal
-  pub restart : r.refusal ≡ 5 → r.held ≡ nothing_held
+  pub restart : r.refusal ≡ 5 → r.held ≡ None
   pub mode : mode_ok r ≡ true
   pub frame : cond r.framed (is_plain r.mode || not (eqb r.refusal 0) || last_block_ok r.last r) (fresh_ok r) ≡ true
 
@@ -104,8 +104,8 @@ ok-in-bounds g r h =
       held-ok g r.refusal r.held h.holds h.restart,
       le-leb r.left 207 h.few,
       le-leb r.zeros 2 h.two,
-      refusal-ok r.refusal h.refusals,
       h.mode,
+      refusal-ok r.refusal h.refusals,
     )
     h.frame
 
@@ -127,16 +127,18 @@ in_bounds_lem g r p five h =
     })
 
 -- and the test tells the facts
-pub ok-held : (g : Agreed) (m : ℕ) (h : Fragment) → held_ok g m h ≡ true → HeldOk g h
-ok-held g m nothing_held e = tt
-ok-held g m (holds n k) e =
+pub ok-held : (g : Agreed) (m : ℕ) (h : Held) → held_ok g m h ≡ true → HeldOk g h
+ok-held g m None e = tt
+ok-held g m (Some h) e =
+    let n = h.count in
+    let k = h.register in
     let few = not (eqb m 5) && leb n (most_decoded g) in
     let front = and_left few (leb k (ones g.check)) e in
     (leb-true n (most_decoded g) (and_right (not (eqb m 5)) (leb n (most_decoded g)) front), leb-true k (ones g.check) (and_right few (leb k (ones g.check)) e))
 
-ok-restart : (g : Agreed) (m : ℕ) (h : Fragment) → held_ok g m h ≡ true → m ≡ 5 → h ≡ nothing_held
-ok-restart g m nothing_held e f = refl
-ok-restart g m (holds n k) e f = false-true (rw f at e)
+ok-restart : (g : Agreed) (m : ℕ) (h : Held) → held_ok g m h ≡ true → m ≡ 5 → h ≡ None
+ok-restart g m None e f = refl
+ok-restart g m (Some h) e f = false-true (rw f at e)
 
 ok-refusal : (n : ℕ) → refusal_ok n ≡ true → (n ≡ 0 → ⊥) → Remembered n
 ok-refusal n e some =
@@ -175,17 +177,16 @@ unfolding in_bounds
 counts g r e =
     let n = r.refusal in
     let frame = cond r.framed (is_plain r.mode || not (eqb n 0) || last_block_ok r.last r) (fresh_ok r) in
-    let most = leb r.decoded (most_decoded g) && held_ok g n r.held && leb r.left 207 && leb r.zeros 2 && refusal_ok n && mode_ok r in
-    let all = ands (leb r.decoded (most_decoded g)) (held_ok g n r.held) (leb r.left 207) (leb r.zeros 2) (refusal_ok n) (mode_ok r) (and_left most frame e) in
+    let all = ands (leb r.decoded (most_decoded g)) (held_ok g n r.held) (leb r.left 207) (leb r.zeros 2) (mode_ok r) (frame_ok r) e in
     record {
       deep = leb-true r.decoded (most_decoded g) all.0;
       holds = ok-held g n r.held all.1;
       few = leb-true r.left 207 all.2;
       two = leb-true r.zeros 2 all.3;
-      refusals = ok-refusal n all.4;
+      refusals = ok-refusal n (and_left (refusal_ok n) frame all.5);
       restart = ok-restart g n r.held all.1;
-      mode = all.5;
-      frame = and_right most frame e;
+      mode = all.4;
+      frame = and_right (refusal_ok n) frame all.5;
     }
 
 pub out-fresh : (g : Agreed) (r : Receiver) → Counts g r → r.framed ≡ false → FreshOk r
@@ -274,7 +275,7 @@ module _ (g : Agreed) (e : ReceiverEnd) (z : Ready g e) where
 
 -- ---- each part of the steps leaves the state in bounds and the work area as long as it was
 
-remember-in : (g : Agreed) (n : ℕ) (resumed : Bool) (r : Receiver) → Remembered n → (n ≡ 5 → r.held ≡ nothing_held) → Bounds g r → Bounds g (step4_remember n resumed r)
+remember-in : (g : Agreed) (n : ℕ) (resumed : Bool) (r : Receiver) → Remembered n → (n ≡ 5 → r.held ≡ None) → Bounds g r → Bounds g (step4_remember n resumed r)
 remember-in g n resumed r h i b =
     record {
       deep = b.deep;
@@ -398,9 +399,11 @@ last_begins c resumed n m h = branch (λ b. LastBlockOk b resumed n m) (eqb c 0x
 
 meaning-in : (g : Agreed) (w : Working) (c : ℕ) (m : Meaning) → meaning g.zxe c ≡ m → Fit g w → w.state.refusal ≡ 0 → Fit g (step2_by_meaning g w c m)
 unfolding step2_by_meaning
-meaning-in g w c NotAgreed e f clean = refuse-in g 6 w (omega arith) (omega arith) f
-meaning-in g w c NoCode e f clean = refuse-in g 7 w (omega arith) (omega arith) f
-meaning-in g w c (InTable n z) e f clean =
+meaning-in g w c (Err NotAgreed) e f clean = refuse-in g 6 w (omega arith) (omega arith) f
+meaning-in g w c (Err NoCode) e f clean = refuse-in g 7 w (omega arith) (omega arith) f
+meaning-in g w c (Ok entry) e f clean =
+    let n = entry.nonzeros in
+    let z = entry.zeros in
     let r = w.state in
     let b = f.bounds in
     let row = numbers (read-row g.zxe c n z e) in
@@ -456,10 +459,12 @@ let-go-in g r b =
     }
 
 -- D1
-resume-held-in : (g : Agreed) (a : List ℕ) (h : Fragment) (r : Receiver) → HeldOk g h → Bounds g r → Bounds g (step1_resume_held g a h r)
+resume-held-in : (g : Agreed) (a : List ℕ) (h : Held) (r : Receiver) → HeldOk g h → Bounds g r → Bounds g (step1_resume_held g a h r)
 unfolding step1_resume_held
-resume-held-in g a nothing_held r k b = remember-in g 8 true r (omega arith, inl (omega arith)) (λ q. absurd (omega arith)) b
-resume-held-in g a (holds n i) r k b =
+resume-held-in g a None r k b = remember-in g 8 true r (omega arith, inl (omega arith)) (λ q. absurd (omega arith)) b
+resume-held-in g a (Some h) r k b =
+    let n = h.count in
+    let i = h.register in
     branch (Bounds g) (eqb (register g.check (take n a)) i)
     (λ _.
     record {
@@ -474,10 +479,12 @@ resume-held-in g a (holds n i) r k b =
     })
     (λ _. remember-in g 21 true (let_go r) (omega arith, inr refl) (λ _. refl) (let-go-in g r b))
 
-settings-up : (g : Agreed) (a : List ℕ) (h : Fragment) (r : Receiver) → (step1_resume_held g a h r).settings ≡ r.settings
+settings-up : (g : Agreed) (a : List ℕ) (h : Held) (r : Receiver) → (step1_resume_held g a h r).settings ≡ r.settings
 unfolding step1_resume_held
-settings-up g a nothing_held r = refl
-settings-up g a (holds n k) r = branch (λ (s : Receiver). s.settings ≡ r.settings) (eqb (register g.check (take n a)) k) (λ _. refl) (λ _. refl)
+settings-up g a None r = refl
+settings-up g a (Some h) r = let n = h.count in
+    let k = h.register in
+    branch (λ (s : Receiver). s.settings ≡ r.settings) (eqb (register g.check (take n a)) k) (λ _. refl) (λ _. refl)
 
 resume-in : (g : Agreed) (a : List ℕ) (w : Working) → Fit g w → Fit g (record { state = step1_d1 g a w.state; area = w.area })
 unfolding step1_d1
@@ -533,7 +540,7 @@ pub record EndsWell (g : Agreed) (t : Ended) : Type 0 where
   pub out : t.state.framed ≡ false
   pub tells : OfFrame t.report
 
-pub fresh_in : (g : Agreed) (t : Settings) (m : Mode) (map : ℕ) (second : Bool) (h : Fragment) → HeldOk g h → Bounds g (fresh t m map second h)
+pub fresh_in : (g : Agreed) (t : Settings) (m : Mode) (map : ℕ) (second : Bool) (h : Held) → HeldOk g h → Bounds g (fresh t m map second h)
 fresh_in g t m map second h k =
     record {
       deep = omega arith;
@@ -548,7 +555,7 @@ fresh_in g t m map second h k =
 
 -- the state behind a frame that is delivered or refused: what is held is let go, or stays
 pub by_end : (P : Receiver → Type 0) (r : Receiver)
-    → (r.resumed ≡ true → P (out_of_frame r r.turn nothing_held))
+    → (r.resumed ≡ true → P (out_of_frame r r.turn None))
     → (r.resumed ≡ false → P (out_of_frame r r.turn r.held)) → P (frame_over (cond r.resumed (let_go r) r))
 by_end P r f h = branch (λ (s : Receiver). P (frame_over s)) r.resumed f h
 

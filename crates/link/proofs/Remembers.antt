@@ -7,14 +7,14 @@ use native.Mathlib.Omega.{arith}
 use borrow.Author.Tests.{eqb-true, eqb-false, ne_eqb, not-true, not-false}
 use lib.Dec.{ltb, eqb}
 use lib.ListN.{length, take, replicate}
+use Rattle.std.specs.Prelude.{Some, None, Ok, Err}
 use Rattle.fcs.specs.CheckSequence.{register, good}
-use Rattle.cobs.specs.CodeBlocks.{meaning}
-use Rattle.cobs.specs.declared.Meaning.{Meaning}
-use Rattle.cobs.specs.declared.Meaning.TheVariants.{InTable, NotAgreed, NoCode}
+use Rattle.cobs.specs.CodeBlocks.{meaning, Meaning}
+use Rattle.cobs.specs.declared.CodeError.TheVariants.{NotAgreed, NoCode}
 use Rattle.cobs.proofs.Tests.{branch, decide}
 use Rattle.link.specs.Agreed.{Agreed, least_frame, most_decoded}
 use Rattle.link.specs.Answers.{Answer, packet, refused}
-use Rattle.link.specs.Receiver.{Fragment, nothing_held, holds, Receiver, Working, Ended, is_no_block, is_d0, is_plain, step4_refuse, step3_write, step3_decode, step3_data, step2_by_meaning, step2_code, step1_resume_held, step1_d1, step1_first_octet, steps_1_to_4, step5_end, step5_without_phantom, step5_flag, at_flag}
+use Rattle.link.specs.Receiver.{Held, Receiver, Working, Ended, is_no_block, is_d0, is_plain, step4_refuse, step3_write, step3_decode, step3_data, step2_by_meaning, step2_code, step1_resume_held, step1_d1, step1_first_octet, steps_1_to_4, step5_end, step5_without_phantom, step5_flag, at_flag}
 use Rattle.link.specs.Receiver as receiver
 use Rattle.link.specs.EachCall.{BlockOver}
 use Rattle.link.proofs.Tests.{if-so, if-not, true-false}
@@ -22,9 +22,9 @@ use Rattle.link.proofs.Cobs.{not-escaped, over-same}
 use Rattle.link.proofs.ReceiverBounds.{by_end}
 
 -- what is held, in the area o, does not give the register that is carried
-abbrev pub NoLongerGives : Agreed → List ℕ → Fragment → Type 0
-NoLongerGives g o nothing_held = ⊥
-NoLongerGives g o (holds n k) = register g.check (take n o) ≡ k → ⊥
+abbrev pub NoLongerGives : Agreed → List ℕ → Held → Type 0
+NoLongerGives g o None = ⊥
+NoLongerGives g o (Some h) = register g.check (take h.count o) ≡ h.register → ⊥
 
 -- the settings, the mode and the map stay
 abbrev pub Agrees : Receiver → Receiver → Type 0
@@ -80,14 +80,16 @@ module _ (F : Type 0) (g : Agreed) (o : List ℕ) (w : Working) where
 
     code-so : (x : ℕ) (k : Meaning) → So (step2_by_meaning g w x k)
     unfolding step2_by_meaning
-    code-so x (InTable n z) = branch So (eqb n 0) (λ _. decode-so (replicate z 0) _ c refl same) (λ _. clean-so _ c refl same)
-    code-so x NotAgreed = refused-so 6 w (omega arith) (omega arith) same
-    code-so x NoCode = refused-so 7 w (omega arith) (omega arith) same
+    code-so x (Ok row) = branch So (eqb row.nonzeros 0) (λ _. decode-so (replicate row.zeros 0) _ c refl same) (λ _. clean-so _ c refl same)
+    code-so x (Err NotAgreed) = refused-so 6 w (omega arith) (omega arith) same
+    code-so x (Err NoCode) = refused-so 7 w (omega arith) (omega arith) same
 
-    D1-so : (h : Fragment) → w.state.held ≡ h → So (record { state = step1_resume_held g o h w.state; area = w.area })
+    D1-so : (h : Held) → w.state.held ≡ h → So (record { state = step1_resume_held g o h w.state; area = w.area })
     unfolding step1_resume_held
-    D1-so nothing_held e = remembers 8 true w.state (λ q. absurd (omega arith)) (λ q. absurd (omega arith)) same
-    D1-so (holds n k) e =
+    D1-so None e = remembers 8 true w.state (λ q. absurd (omega arith)) (λ q. absurd (omega arith)) same
+    D1-so (Some h) e =
+        let n = h.count in
+        let k = h.register in
         branch (λ (r : Receiver). So (record { state = r; area = w.area })) (eqb (register g.check (take n o)) k) (λ _. clean-so _ refl refl same)
         (λ q. remembers 21 true (receiver.let_go w.state) (λ _. subst (NoLongerGives g o) (sym e) (eqb-false _ k q)) (λ q. absurd (omega arith)) same)
 
@@ -119,11 +121,11 @@ module _ (g : Agreed) (o : List ℕ) (w : Working) where
 abbrev pub AgreesOver : Receiver → Receiver → Type 0
 AgreesOver r s = (s.settings ≡ r.settings) × (s.mode ≡ receiver.escape_over r.mode) × (s.map ≡ r.map)
 
-over : (r : Receiver) (turn : Bool) (h : Fragment) → AgreesOver r (receiver.out_of_frame r turn h)
+over : (r : Receiver) (turn : Bool) (h : Held) → AgreesOver r (receiver.out_of_frame r turn h)
 over r turn h = (refl, refl, refl)
 
 pub end-over : (a : Answer) (r : Receiver) → AgreesOver r (step5_end a r).state
-end-over a r = by_end (AgreesOver r) r (λ _. over r r.turn nothing_held) (λ _. over r r.turn r.held)
+end-over a r = by_end (AgreesOver r) r (λ _. over r r.turn None) (λ _. over r r.turn r.held)
 
 pub whole-over : (g : Agreed) (r : Receiver) (area : List ℕ) (n : ℕ) → AgreesOver r (step5_without_phantom g r area n).state
 unfolding step5_without_phantom

@@ -8,12 +8,13 @@ use native.Mathlib.Omega.{arith}
 use borrow.Author.Tests.{eqb-true, eqb-false, le-ltb}
 use lib.Dec.{eqb}
 use lib.ListN.{take}
+use Rattle.std.specs.Prelude.{None}
 use Rattle.cobs.specs.CodeBlocks.{flag, from_line}
 use Rattle.cobs.proofs.Tests.{decide}
 use Rattle.cobs.proofs.Exchange.{from-line}
 use Rattle.link.specs.Agreed.{Agreed, agreed, largest_frame}
 use Rattle.link.specs.Answers.{quiet, held, refused}
-use Rattle.link.specs.Receiver.{Fragment, nothing_held, holds, no_block, Mode, kept_off, cobs, plain, Receiver, ReceiverEnd, Receive, fresh, escape_over, is_off, is_plain, with_mode, with_decoded, in_frame, write, in_bounds, step4_remember, step1_restart, step1_resume_held, step1_d1, step1_first_octet, steps_1_to_4, step5_end, at_flag, plain_data, begin_plain, work, aside, put_back, flagged, quietly, receive}
+use Rattle.link.specs.Receiver.{Held, holds, no_block, Mode, kept_off, cobs, plain, Receiver, ReceiverEnd, Receive, fresh, escape_over, is_off, is_plain, with_mode, with_decoded, in_frame, write, in_bounds, step4_remember, step1_restart, step1_resume_held, step1_d1, step1_first_octet, steps_1_to_4, step5_end, at_flag, plain_data, begin_plain, work, aside, put_back, flagged, quietly, receive}
 use Rattle.link.specs.ReceiverParts.{ReceiverReady}
 use Rattle.link.specs.Runs.{receives, received}
 use Rattle.link.specs.EachCall.{HeldThen, NotHeldThen}
@@ -97,9 +98,9 @@ module _ (e : ReceiverEnd) (at : OutOfCobsFrame e) where
       (ap (λ (t : Receiver). put_back e (record { state = t; area = (work e).area })) is ∙ put-back-state r)
 
   -- D1 with nothing held
-  D1-none : g.pre ≡ true → s.held ≡ nothing_held → receive e 0xD1 ≡ record { report = quiet; after = becomes (step4_remember 8 true s) }
+  D1-none : g.pre ≡ true → s.held ≡ None → receive e 0xD1 ≡ record { report = quiet; after = becomes (step4_remember 8 true s) }
   unfolding step1_d1 step1_resume_held
-  D1-none pre none = D1-becomes (step4_remember 8 true s) (if-so _ _ _ pre ∙ ap (λ (k : Fragment). step1_resume_held g (aside e) k s) none)
+  D1-none pre none = D1-becomes (step4_remember 8 true s) (if-so _ _ _ pre ∙ ap (λ (k : Held). step1_resume_held g (aside e) k s) none)
 
   -- so refused, to its flag
   pub refused-first : (x n : ℕ) (r : Receiver) → receive e x ≡ record { report = quiet; after = becomes r } → is_plain r.mode ≡ false → r.framed ≡ true → r.refusal ≡ n → (n ≡ 0 → ⊥)
@@ -115,14 +116,14 @@ module _ (e : ReceiverEnd) (at : OutOfCobsFrame e) where
   pub over-cleared : (n : ℕ) (resumed : Bool) → flagged (becomes (step4_remember n resumed (cleared e).state)) (step5_end (refused n) (step4_remember n resumed (cleared e).state)) ≡ record { report = refused n; after = cleared e }
   over-cleared n resumed =
       let told : Receiver → Receive = λ r. record { report = refused n; after = becomes r } in
-      let out : Mode → Receiver = λ m. fresh s.settings m s.map s.turn nothing_held in
+      let out : Mode → Receiver = λ m. fresh s.settings m s.map s.turn None in
       let same : told (out (escape_over s.mode)) ≡ told (out s.mode) = ap (λ (m : Mode). told (out m)) (over-same s.mode (not-escaped s.mode at.cobs)) in
       by_end (λ (r : Receiver). told r ≡ told (out s.mode)) (step4_remember n resumed (cleared e).state) (λ _. same) (λ _. same)
 
   restart-frame : s.mode ≡ kept_off → (rest : List ℕ) → (Memᴰ flag rest → ⊥) → receive (received e (0xFF ∷ rest)) flag ≡ record { report = refused 5; after = cleared e }
   restart-frame off rest none = refused-first 0xFF 5 _ (FF-is off) at.cobs refl refl (λ q. omega arith) rest none ∙ over-cleared 5 false
 
-  none-to-resume : g.pre ≡ true → s.held ≡ nothing_held → (rest : List ℕ) → (Memᴰ flag rest → ⊥)
+  none-to-resume : g.pre ≡ true → s.held ≡ None → (rest : List ℕ) → (Memᴰ flag rest → ⊥)
       → (receive (received e (0xD1 ∷ rest)) flag).report ≡ refused 8
   none-to-resume pre held-is rest none =
       ap (λ (h : Receive). h.report) (refused-first 0xD1 8 _ (D1-none pre held-is) at.cobs refl refl (λ q. omega arith) rest none)
@@ -167,8 +168,8 @@ module _ (e f : ReceiverEnd) (at : OutOfCobsFrame e) (b : ReceiverReady f) (same
       one = ap (take 1) (found e.state.turn _ _ _) ∙ sym (ap (take 1) (found e.state.turn _ _ _))
 
 -- nothing held stays so, until a Held report
-module _ (e : ReceiverEnd) (a : ReceiverReady e) (none : e.state.held ≡ nothing_held) where
-  still-none : (x : ℕ) → ((n : ℕ) (replaced : Bool) → (receive e x).report ≡ held n replaced → ⊥) → (receive e x).after.state.held ≡ nothing_held
+module _ (e : ReceiverEnd) (a : ReceiverReady e) (none : e.state.held ≡ None) where
+  still-none : (x : ℕ) → ((n : ℕ) (replaced : Bool) → (receive e x).report ≡ held n replaced → ⊥) → (receive e x).after.state.held ≡ None
   still-none x unheld =
       decide (eqb x flag)
       (λ q.
@@ -183,14 +184,14 @@ module _ (e : ReceiverEnd) (a : ReceiverReady e) (none : e.state.held ≡ nothin
       (λ f. ap (λ (h : Receive). h.after.state.held) (receives-so.empty e a f) ∙ none))
       (λ q. (receives-so.takes_in e a x (eqb-false x flag q) (λ _ _ _ _. none)).held ∙ either (not (is_plain e.state.mode) && not e.state.framed && eqb (from_line x) 0xFF))
     where
-      either : (b : Bool) → cond b nothing_held e.state.held ≡ nothing_held
+      either : (b : Bool) → cond b None e.state.held ≡ None
       either true = refl
       either false = none
 
-      given : (t : NotHeldThen e.state (receive e flag)) → t.fragment ≡ nothing_held
+      given : (t : NotHeldThen e.state (receive e flag)) → t.fragment ≡ None
       given t = decide e.state.resumed t.resumed (λ k. t.other k ∙ none)
 
-none-held : (line : List ℕ) (e : ReceiverEnd) → ReceiverReady e → e.state.held ≡ nothing_held → NoHeldReport (receives e line) → (received e line).state.held ≡ nothing_held
+none-held : (line : List ℕ) (e : ReceiverEnd) → ReceiverReady e → e.state.held ≡ None → NoHeldReport (receives e line) → (received e line).state.held ≡ None
 unfolding receives received
 none-held [] e a none unheld = none
 none-held (x ∷ xs) e a none unheld =
@@ -199,7 +200,7 @@ none-held (x ∷ xs) e a none unheld =
     (λ h n replaced m q. unheld h n replaced (Memᴰ.tail m) q)
 
 until-held : (e : ReceiverEnd) → OutOfCobsFrame e → (line : List ℕ) → NoHeldReport (receives e (0xFF ∷ line))
-    → (received e (0xFF ∷ line)).state.held ≡ nothing_held
+    → (received e (0xFF ∷ line)).state.held ≡ None
 unfolding receives received
 until-held e at line unheld =
     let m = e.state.mode in
@@ -211,7 +212,7 @@ until-held e at line unheld =
 five-and-held : (r : Receiver) (n k : ℕ) → r.refusal ≡ 5 → r.held ≡ holds n k → in_bounds (agreed r.settings) r ≡ false
 five-and-held r n k five some =
     decide (in_bounds (agreed r.settings) r)
-    (λ b. absurd (let none : nothing_held ≡ holds n k = sym ((counts _ r b).restart five) ∙ some in let z : ◌≡◌ {A = ℕ} 0 1 = cc in omega arith))
+    (λ b. absurd (let none : None ≡ holds n k = sym ((counts _ r b).restart five) ∙ some in let z : ◌≡◌ {A = ℕ} 0 1 = cc in omega arith))
     (λ b. b)
 
 pub restart : Restart

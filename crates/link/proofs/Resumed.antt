@@ -8,14 +8,14 @@ use native.Mathlib.Omega.{arith}
 use borrow.Author.Tests.{eqb-true, eqb-false, ltb-true, lt-ltb, le-ltb, eq-eqb, not-false}
 use lib.Dec.{ltb, eqb}
 use lib.ListN.{length, take, replicate}
+use Rattle.std.specs.Prelude.{Some, None}
 use Rattle.fcs.specs.CheckSequence.{register, good}
-use Rattle.cobs.specs.CodeBlocks.{flag, from_line}
-use Rattle.cobs.specs.declared.Meaning.TheVariants.{InTable}
+use Rattle.cobs.specs.CodeBlocks.{flag, from_line, in_row}
 use Rattle.cobs.proofs.Tests.{branch, decide}
 use Rattle.cobs.proofs.Table.{Row, row_read}
 use Rattle.link.specs.Agreed.{Agreed, least_frame, most_decoded}
 use Rattle.link.specs.Answers.{quiet}
-use Rattle.link.specs.Receiver.{Fragment, nothing_held, holds, Receiver, Working, ReceiverEnd, Ended, is_no_block, is_d0, step4_refuse, step3_decode, step3_data, step2_by_meaning, step2_code, step1_resume_held, step1_d1, step1_first_octet, steps_1_to_4, step5_without_phantom, step5_flag, at_flag, work, aside, put_back}
+use Rattle.link.specs.Receiver.{Held, Receiver, Working, ReceiverEnd, Ended, is_no_block, is_d0, step4_refuse, step3_decode, step3_data, step2_by_meaning, step2_code, step1_resume_held, step1_d1, step1_first_octet, steps_1_to_4, step5_without_phantom, step5_flag, at_flag, work, aside, put_back}
 use Rattle.link.proofs.Cobs.{cobs_receive}
 use Rattle.link.proofs.Tests.{if-so, if-not, true-false}
 use Rattle.link.proofs.ReceiverBounds.{Ready, receive-flag, receive_other, first-octet, by_end}
@@ -63,7 +63,7 @@ module _ (g : Agreed) (o : List ℕ) (w : Working) (n : ℕ) (i : InStep n w.sta
       if-not _ _ _ (ap not (eq-eqb r.refusal 0 c))
       ∙ (if-not _ _ _ (ap not i.framed-is) ∙ if-not _ _ _ (le-ltb 0 r.left (omega (arith, i.left-is c))))
 
-  begins : (c m z : ℕ) → InStep m (step2_by_meaning g w c (InTable m z)).state
+  begins : (c m z : ℕ) → InStep m (step2_by_meaning g w c (in_row m z)).state
   unfolding step2_by_meaning
   begins c m z =
       branch (λ (v : Working). InStep m v.state) (eqb m 0)
@@ -99,10 +99,12 @@ module _ (g : Agreed) (e : ReceiverEnd) (z : Ready g e) where
   abbrev s : Receiver
   s = e.state
 
-  resume-in-step : (k : Fragment) → InStep 0 (step1_resume_held g (aside e) k s)
+  resume-in-step : (k : Held) → InStep 0 (step1_resume_held g (aside e) k s)
   unfolding step1_resume_held
-  resume-in-step nothing_held = record { framed-is = refl; resumed-is = refl; left-is = λ c. absurd (omega arith) }
-  resume-in-step (holds n k) =
+  resume-in-step None = record { framed-is = refl; resumed-is = refl; left-is = λ c. absurd (omega arith) }
+  resume-in-step (Some h) =
+      let n = h.count in
+      let k = h.register in
       branch (InStep 0) (eqb (register g.check (take n (aside e))) k) (λ _. record { framed-is = refl; resumed-is = refl; left-is = λ _. refl })
       (λ _. record { framed-is = refl; resumed-is = refl; left-is = λ c. absurd (omega arith) })
 
@@ -124,11 +126,11 @@ module _ (g : Agreed) (e : ReceiverEnd) (z : Ready g e) where
       (branch (InStep 0) g.pre (λ _. resume-in-step s.held)
       (λ _. record { framed-is = refl; resumed-is = refl; left-is = λ c. absurd (omega arith) }))
 
-  pub leaves_nothing : InStep 0 s → (cobs_receive e flag).after.state.held ≡ nothing_held
+  pub leaves_nothing : InStep 0 s → (cobs_receive e flag).after.state.held ≡ None
   unfolding at_flag step5_flag step5_without_phantom
   leaves_nothing i =
-      let P : Ended → Type 0 = λ t. t.state.held ≡ nothing_held in
-      let given = by_end (λ (r : Receiver). r.held ≡ nothing_held) s (λ _. refl) (λ q. true-false (sym i.resumed-is ∙ q)) in
+      let P : Ended → Type 0 = λ t. t.state.held ≡ None in
+      let given = by_end (λ (r : Receiver). r.held ≡ None) s (λ _. refl) (λ q. true-false (sym i.resumed-is ∙ q)) in
       rw (receive-flag g e z)
       (branch P s.framed
       (λ _. branch P (not (eqb s.refusal 0)) (λ _. given)

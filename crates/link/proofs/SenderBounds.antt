@@ -8,13 +8,14 @@ use borrow.Author.Tests.{ltb-true, ltb-false, leb-true, eqb-true, eqb-false, lt-
 use lib.Dec.{leb, ltb, eqb}
 use lib.ListN.{length, take, drop, length-append, length-drop}
 use lib.Seq.{length-take-le}
+use Rattle.std.specs.Prelude.{Some, None}
 use Rattle.cobs.specs.CodeBlocks.{frame, choice}
 use Rattle.cobs.proofs.Tests.{branch, decide, and_left, and_right}
 use Rattle.cobs.proofs.Table.{numbers}
 use Rattle.cobs.proofs.Chosen.{Stands, chosen_at}
 use Rattle.link.specs.Agreed.{Settings, Agreed, agreed, least_packet, least_frame, largest_frame, valid}
 use Rattle.link.specs.Answers.{Answer, done, refused}
-use Rattle.link.specs.Sender.{Lane, low, high, OnLine, no_lane, sending, LaneState, Sender, SenderEnd, refuses, Step, Load, lane_state, loaded, lane_d, lane_ok, line_ok, lane_on_line_ok, in_bounds, put_frame, load, step1_cut_due, next}
+use Rattle.link.specs.Sender.{Lane, low, high, OnLine, LaneState, Sender, SenderEnd, refuses, Step, Load, lane_state, loaded, lane_d, lane_ok, line_ok, lane_on_line_ok, in_bounds, put_frame, load, step1_cut_due, next}
 use Rattle.link.proofs.Tests.{ands, true-false, false-true, not-below, or_cases}
 use Rattle.link.proofs.Way.{Advance, last, more, covers, opens, Way, ends, cuts, warns, goes, sender, Turn, cut-due, idles, resumes-low, begins-high, begins-low, high-on, low-on, turn}
 use Rattle.link.proofs.Follow.{frame-long}
@@ -31,9 +32,9 @@ pub record Room (q : LaneState) (n z : ℕ) : Type 0 where
   pub room : q.position + (n + z) ≤ q.length + 1
 
 abbrev pub LineOk : OnLine → LaneState → LaneState → ℕ → ℕ → Bool → Bool → Type 0
-LineOk no_lane ql qh n z suspended cut = (n ≡ 0) × (z ≡ 0) × (cut ≡ false)
-LineOk (sending low) ql qh n z suspended cut = Room ql n z × (suspended ≡ false) × (cut ≡ true → n ≡ 0)
-LineOk (sending high) ql qh n z suspended cut = Room qh n z × (cut ≡ false)
+LineOk None ql qh n z suspended cut = (n ≡ 0) × (z ≡ 0) × (cut ≡ false)
+LineOk (Some low) ql qh n z suspended cut = Room ql n z × (suspended ≡ false) × (cut ≡ true → n ≡ 0)
+LineOk (Some high) ql qh n z suspended cut = Room qh n z × (cut ≡ false)
 
 pub record Bounds (g : Agreed) (s : Sender) : Type 0 where
   pub low : LaneOk g s.low
@@ -55,10 +56,10 @@ block-ok : (q : LaneState) (s : Sender) → Room q s.left s.zeros → lane_on_li
 block-ok q s h = rw (lt-ltb 0 q.length h.loaded, le-leb (q.position + s.left + s.zeros) (q.length + 1) (omega (arith, h.room)))
 
 line_ok_lem : (o : OnLine) (s : Sender) → LineOk o s.low s.high s.left s.zeros s.suspended s.cut → line_ok o s ≡ true
-line_ok_lem no_lane s h = rw (eq-eqb s.left 0 h.0, eq-eqb s.zeros 0 h.1, h.2)
-line_ok_lem (sending low) s h =
+line_ok_lem None s h = rw (eq-eqb s.left 0 h.0, eq-eqb s.zeros 0 h.1, h.2)
+line_ok_lem (Some low) s h =
     rw (block-ok s.low s h.0, h.1) (decide s.cut (λ e. rw e (eq-eqb s.left 0 (h.2 e))) (λ e. rw e))
-line_ok_lem (sending high) s h = rw (block-ok s.high s h.0, h.1)
+line_ok_lem (Some high) s h = rw (block-ok s.high s h.0, h.1)
 
 pub in_bounds_lem : (g : Agreed) (s : Sender) → Bounds g s → in_bounds g s ≡ true
 unfolding in_bounds
@@ -104,14 +105,14 @@ ok-block q s e =
     record { loaded = ltb-true 0 q.length (and_left (loaded q) (leb sum (q.length + 1)) e); room = omega arith }
 
 ok-line : (o : OnLine) (s : Sender) → line_ok o s ≡ true → LineOk o s.low s.high s.left s.zeros s.suspended s.cut
-ok-line no_lane s e =
+ok-line None s e =
     let none = eqb s.left 0 && eqb s.zeros 0 in
     let e₁ = and_left none (not s.cut) e in (
       eqb-true s.left 0 (and_left (eqb s.left 0) (eqb s.zeros 0) e₁),
       eqb-true s.zeros 0 (and_right (eqb s.left 0) (eqb s.zeros 0) e₁),
       not-true s.cut (and_right none (not s.cut) e),
     )
-ok-line (sending low) s e =
+ok-line (Some low) s e =
     let due = not s.cut || eqb s.left 0 in
     let e₁ = and_left (lane_on_line_ok s.low s && not s.suspended) due e in (
       ok-block s.low s (and_left (lane_on_line_ok s.low s) (not s.suspended) e₁),
@@ -121,7 +122,7 @@ ok-line (sending low) s e =
           (λ f. true-false (sym k ∙ not-true s.cut f))
           (eqb-true s.left 0),
     )
-ok-line (sending high) s e = (
+ok-line (Some high) s e = (
   ok-block s.high s (and_left (lane_on_line_ok s.high s) (not s.cut) e),
   not-true s.cut (and_right (lane_on_line_ok s.high s) (not s.cut) e),
 )
@@ -220,8 +221,8 @@ module _ (g : Agreed) (ql qh : LaneState) (n z : ℕ) (t : Settings) where
       record { low = b.low; high = b.high; few = b.few; two = b.two; even = b.even; line = line; waits = waits }
 
   -- steps 3 to 6 of the high lane
-  pub high-keeps : (u : Bool) (a : List ℕ) → qh.length ≤ length a → Bounds g (sender ql qh n z (sending high) u false t)
-      → (st : Step) → Way g high (sender ql qh n z (sending high) u false t) (lane_d qh a) st → Kept g t st.state
+  pub high-keeps : (u : Bool) (a : List ℕ) → qh.length ≤ length a → Bounds g (sender ql qh n z (Some high) u false t)
+      → (st : Step) → Way g high (sender ql qh n z (Some high) u false t) (lane_d qh a) st → Kept g t st.state
   high-keeps u a fits b st (ends over) =
       let room = b.line.0.room in
       record {
@@ -256,8 +257,8 @@ module _ (g : Agreed) (ql qh : LaneState) (n z : ℕ) (t : Settings) where
       }
 
   -- of the low lane
-  pub low_keeps : (a : List ℕ) → ql.length ≤ length a → Bounds g (sender ql qh n z (sending low) false false t)
-      → (st : Step) → Way g low (sender ql qh n z (sending low) false false t) (lane_d ql a) st → Kept g t st.state
+  pub low_keeps : (a : List ℕ) → ql.length ≤ length a → Bounds g (sender ql qh n z (Some low) false false t)
+      → (st : Step) → Way g low (sender ql qh n z (Some low) false false t) (lane_d ql a) st → Kept g t st.state
   low_keeps a fits b st (ends over) =
       let room = b.line.0.room in
       record {
@@ -288,7 +289,7 @@ module _ (g : Agreed) (ql qh : LaneState) (n z : ℕ) (t : Settings) where
             };
       }
   low_keeps a fits b st (warns short e pre urgent f) =
-      record { settings = refl; bounds = relined (sending low) false true (b.line.0, refl, λ _. f) (λ e. false-true e) b }
+      record { settings = refl; bounds = relined (Some low) false true (b.line.0, refl, λ _. f) (λ e. false-true e) b }
   low_keeps a fits b st (goes x pos n' z' short v free) =
       let k = advance g ql a fits n z (record { room = b.line.0.room; few = b.few; two = b.two; even = b.even }) short x pos n' z' v in
       record {
@@ -306,19 +307,19 @@ module _ (g : Agreed) (ql qh : LaneState) (n z : ℕ) (t : Settings) where
       }
 
   -- step 1
-  pub cut_keeps : (u : Bool) → Bounds g (sender ql qh n z (sending low) u true t) → Kept g t (step1_cut_due (sender ql qh n z (sending low) u true t)).state
+  pub cut_keeps : (u : Bool) → Bounds g (sender ql qh n z (Some low) u true t) → Kept g t (step1_cut_due (sender ql qh n z (Some low) u true t)).state
   cut_keeps u b =
       let none-left = b.line.2 refl in
-      record { settings = refl; bounds = relined no_lane true false (none-left, b.even none-left, refl) (λ _. b.line.0.loaded) b }
+      record { settings = refl; bounds = relined None true false (none-left, b.even none-left, refl) (λ _. b.line.0.loaded) b }
 
   -- a lane comes on the line
-  pub enter-high : (u : Bool) → 0 < qh.length → Bounds g (sender ql qh n z no_lane u false t) → Bounds g (sender ql qh n z (sending high) u false t)
+  pub enter-high : (u : Bool) → 0 < qh.length → Bounds g (sender ql qh n z None u false t) → Bounds g (sender ql qh n z (Some high) u false t)
   enter-high u h b =
-      relined (sending high) u false (record { loaded = h; room = omega (arith, b.high.place, b.line.0, b.line.1) }, refl) b.waits b
+      relined (Some high) u false (record { loaded = h; room = omega (arith, b.high.place, b.line.0, b.line.1) }, refl) b.waits b
 
-  pub enter-low : (u : Bool) → 0 < ql.length → Bounds g (sender ql qh n z no_lane u false t) → Bounds g (sender ql qh n z (sending low) false false t)
+  pub enter-low : (u : Bool) → 0 < ql.length → Bounds g (sender ql qh n z None u false t) → Bounds g (sender ql qh n z (Some low) false false t)
   enter-low u h b =
-      relined (sending low) false false
+      relined (Some low) false false
       (record { loaded = h; room = omega (arith, b.low.place, b.line.0, b.line.1) }, refl, λ e. false-true e)
       (λ e. false-true e)
       b
@@ -326,9 +327,9 @@ module _ (g : Agreed) (ql qh : LaneState) (n z : ℕ) (t : Settings) where
   -- whichever step applies
   turn-keeps : (al ah : List ℕ) → largest_frame g ≤ length al → largest_frame g ≤ length ah → (o : OnLine) (u c : Bool) (st : Step)
       → Turn g ql qh n z t al ah o u c st → Bounds g (sender ql qh n z o u c t) → Kept g t st.state
-  turn-keeps al ah hl hh no_lane u c st cut-due b = true-false b.line.2
-  turn-keeps al ah hl hh (sending high) u c st cut-due b = true-false b.line.1
-  turn-keeps al ah hl hh (sending low) u c st cut-due b = cut_keeps u b
+  turn-keeps al ah hl hh None u c st cut-due b = true-false b.line.2
+  turn-keeps al ah hl hh (Some high) u c st cut-due b = true-false b.line.1
+  turn-keeps al ah hl hh (Some low) u c st cut-due b = cut_keeps u b
   turn-keeps al ah hl hh o u c st (idles i j) b = record { settings = refl; bounds = b }
   turn-keeps al ah hl hh o u c st (resumes-low i h) b = record { settings = refl; bounds = enter-low true h b }
   turn-keeps al ah hl hh o u c st (begins-high h w) b = high-keeps u ah (fits-area g qh ah b.high hh) (enter-high u h b) st w
@@ -357,31 +358,31 @@ next-keeps g e ag b =
 -- ---- a lane that holds nothing is neither on the line nor suspended
 
 pub data LowOff : OnLine → Bool → Bool → Type 0 where
-  low-off₁ : LowOff no_lane false false
-  low-off₂ : LowOff (sending high) false false
+  low-off₁ : LowOff None false false
+  low-off₂ : LowOff (Some high) false false
 
 pub data HighOff : OnLine → Bool → Bool → Type 0 where
-  high-off₁ : {u : Bool} → HighOff no_lane u false
-  high-off₂ : HighOff (sending low) false false
-  high-off₃ : HighOff (sending low) false true
+  high-off₁ : {u : Bool} → HighOff None u false
+  high-off₂ : HighOff (Some low) false false
+  high-off₃ : HighOff (Some low) false true
 
 module _ (ql qh : LaneState) (n z : ℕ) where
   pub low-off : (o : OnLine) (u c : Bool) → ql.length ≡ 0 → (u ≡ true → 0 < ql.length) → LineOk o ql qh n z u c → LowOff o u c
-  low-off no_lane u true e w h = true-false h.2
-  low-off no_lane true false e w h = absurd (omega (arith, w refl))
-  low-off no_lane false false e w h = low-off₁
-  low-off (sending high) u true e w h = true-false h.1
-  low-off (sending high) true false e w h = absurd (omega (arith, w refl))
-  low-off (sending high) false false e w h = low-off₂
-  low-off (sending low) u c e w h = absurd (omega (arith, h.0.loaded))
+  low-off None u true e w h = true-false h.2
+  low-off None true false e w h = absurd (omega (arith, w refl))
+  low-off None false false e w h = low-off₁
+  low-off (Some high) u true e w h = true-false h.1
+  low-off (Some high) true false e w h = absurd (omega (arith, w refl))
+  low-off (Some high) false false e w h = low-off₂
+  low-off (Some low) u c e w h = absurd (omega (arith, h.0.loaded))
 
   pub high-off : (o : OnLine) (u c : Bool) → qh.length ≡ 0 → LineOk o ql qh n z u c → HighOff o u c
-  high-off no_lane u true e h = true-false h.2
-  high-off no_lane u false e h = high-off₁
-  high-off (sending high) u c e h = absurd (omega (arith, h.0.loaded))
-  high-off (sending low) true c e h = true-false h.1
-  high-off (sending low) false true e h = high-off₃
-  high-off (sending low) false false e h = high-off₂
+  high-off None u true e h = true-false h.2
+  high-off None u false e h = high-off₁
+  high-off (Some high) u c e h = absurd (omega (arith, h.0.loaded))
+  high-off (Some low) true c e h = true-false h.1
+  high-off (Some low) false true e h = high-off₃
+  high-off (Some low) false false e h = high-off₂
 
 -- ---- load
 
@@ -415,14 +416,14 @@ module _ (g : Agreed) (p : List ℕ) (big : least_packet ≤ length p) (small : 
   loaded-ok = record { size = λ _. (omega (arith, frame-long g p), omega (arith, frame-long g p)); place = omega arith }
 
   line_low : (o : OnLine) (ql qh : LaneState) (n z : ℕ) (u c : Bool) → ql.length ≡ 0 → LineOk o ql qh n z u c → LineOk o (q-p g p) qh n z u c
-  line_low no_lane ql qh n z u c e h = h
-  line_low (sending low) ql qh n z u c e h = absurd (omega (arith, h.0.loaded))
-  line_low (sending high) ql qh n z u c e h = h
+  line_low None ql qh n z u c e h = h
+  line_low (Some low) ql qh n z u c e h = absurd (omega (arith, h.0.loaded))
+  line_low (Some high) ql qh n z u c e h = h
 
   line-high : (o : OnLine) (ql qh : LaneState) (n z : ℕ) (u c : Bool) → qh.length ≡ 0 → LineOk o ql qh n z u c → LineOk o ql (q-p g p) n z u c
-  line-high no_lane ql qh n z u c e h = h
-  line-high (sending low) ql qh n z u c e h = h
-  line-high (sending high) ql qh n z u c e h = absurd (omega (arith, h.0.loaded))
+  line-high None ql qh n z u c e h = h
+  line-high (Some low) ql qh n z u c e h = h
+  line-high (Some high) ql qh n z u c e h = absurd (omega (arith, h.0.loaded))
 
   pub put-bounds : (l : Lane) (s : Sender) (a : List ℕ) → (lane_state l s).length ≡ 0 → Bounds g s → Kept g s.settings (put_frame g l p s a).state
   unfolding put_frame

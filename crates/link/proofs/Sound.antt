@@ -8,9 +8,10 @@ use Prim.Native.Nat.{ℕ, ◌+◌, ◌≤◌, ◌<◌}
 use native.Mathlib.Omega.{arith}
 use lib.ListN.{length, take, drop, get_or, length-take}
 use lib.Seq.{get_or-drop, take-append_seam}
+use Rattle.std.specs.Prelude.{Some, None}
 use Rattle.cobs.specs.CodeBlocks.{frame}
 use Rattle.link.specs.Agreed.{Settings, Agreed, agreed, least_packet}
-use Rattle.link.specs.Sender.{Lane, low, high, OnLine, no_lane, sending, LaneState, Sender, Step, lane_area, lane_d, put_frame}
+use Rattle.link.specs.Sender.{Lane, low, high, OnLine, LaneState, Sender, Step, lane_area, lane_d, put_frame}
 use Rattle.link.specs.Runs.{Station, fresh_station, loaded_by, after_load, after_step, after_next, run, SenderCall, loading, next_octet}
 use Rattle.link.proofs.Tests.{true-false, false-true}
 use Rattle.link.proofs.Way.{Advance, last, more, covers, opens, Way, ends, cuts, warns, goes, sender, Turn, cut-due, idles, resumes-low, begins-high, begins-low, high-on, low-on, by_next}
@@ -45,14 +46,14 @@ Aside g false q = Rested q
 
 -- by the lane on the line, the mark suspended and whether a cut is due
 abbrev pub Line : Agreed → OnLine → Bool → Bool → Station → Type 0
-Line g no_lane u c w = Rested w.end.state.high × Aside g u w.end.state.low
-Line g (sending high) u c w =
+Line g None u c w = Rested w.end.state.high × Aside g u w.end.state.low
+Line g (Some high) u c w =
     BlockAt (lane_d w.end.state.high w.end.high) w.end.state.high.position w.end.state.left w.end.state.zeros
     × Aside g u w.end.state.low
-Line g (sending low) u false w =
+Line g (Some low) u false w =
     BlockAt (lane_d w.end.state.low w.end.low) w.end.state.low.position w.end.state.left w.end.state.zeros
     × Rested w.end.state.high
-Line g (sending low) u true w = Waiting g w.end.state.low × Rested w.end.state.high
+Line g (Some low) u true w = Waiting g w.end.state.low × Rested w.end.state.high
 
 pub record Sound (g : Agreed) (w : Station) : Type 0 where
   pub agrees : agreed w.end.state.settings ≡ g
@@ -99,9 +100,9 @@ module _ (g : Agreed) (q : LaneState) (a : List ℕ) (n z : ℕ) (fits : q.lengt
 
 module _ (g : Agreed) (ql qh : LaneState) (n z : ℕ) (t : Settings) (al ah : List ℕ) (bl bh : Option (List ℕ)) where
   -- steps 3 to 6 of the high lane
-  pub sound-high : (u : Bool) → Sound g (station (sender ql qh n z (sending high) u false t) al ah bl bh)
-      → (st : Step) → Way g high (sender ql qh n z (sending high) u false t) (lane_d qh ah) st
-      → Sound g (after_step (station (sender ql qh n z (sending high) u false t) al ah bl bh) st)
+  pub sound-high : (u : Bool) → Sound g (station (sender ql qh n z (Some high) u false t) al ah bl bh)
+      → (st : Step) → Way g high (sender ql qh n z (Some high) u false t) (lane_d qh ah) st
+      → Sound g (after_step (station (sender ql qh n z (Some high) u false t) al ah bl bh) st)
   sound-high u s st (ends over) =
       let k = bounds.high-keeps g ql qh n z t u ah (stock-fits g qh ah bh s.stock-high) s.in-bounds st (ends over) in
       record {
@@ -125,13 +126,13 @@ module _ (g : Agreed) (ql qh : LaneState) (n z : ℕ) (t : Settings) (al ah : Li
       }
 
   -- of the low lane
-  low-in-bounds : Sound g (station (sender ql qh n z (sending low) false false t) al ah bl bh)
-      → (st : Step) → Way g low (sender ql qh n z (sending low) false false t) (lane_d ql al) st → bounds.Bounds g st.state
+  low-in-bounds : Sound g (station (sender ql qh n z (Some low) false false t) al ah bl bh)
+      → (st : Step) → Way g low (sender ql qh n z (Some low) false false t) (lane_d ql al) st → bounds.Bounds g st.state
   low-in-bounds s st w = (bounds.low_keeps g ql qh n z t al (stock-fits g ql al bl s.stock-low) s.in-bounds st w).bounds
 
-  pub sound-low : Sound g (station (sender ql qh n z (sending low) false false t) al ah bl bh)
-      → (st : Step) → Way g low (sender ql qh n z (sending low) false false t) (lane_d ql al) st
-      → Sound g (after_step (station (sender ql qh n z (sending low) false false t) al ah bl bh) st)
+  pub sound-low : Sound g (station (sender ql qh n z (Some low) false false t) al ah bl bh)
+      → (st : Step) → Way g low (sender ql qh n z (Some low) false false t) (lane_d ql al) st
+      → Sound g (after_step (station (sender ql qh n z (Some low) false false t) al ah bl bh) st)
   sound-low s st (ends over) =
       record {
         agrees = s.agrees;
@@ -168,8 +169,8 @@ module _ (g : Agreed) (ql qh : LaneState) (n z : ℕ) (t : Settings) (al ah : Li
       }
 
   -- a lane comes on the line
-  pub enter-high : (u : Bool) → 0 < qh.length → Sound g (station (sender ql qh n z no_lane u false t) al ah bl bh)
-      → Sound g (station (sender ql qh n z (sending high) u false t) al ah bl bh)
+  pub enter-high : (u : Bool) → 0 < qh.length → Sound g (station (sender ql qh n z None u false t) al ah bl bh)
+      → Sound g (station (sender ql qh n z (Some high) u false t) al ah bl bh)
   enter-high u h s =
       record {
         agrees = s.agrees;
@@ -179,8 +180,8 @@ module _ (g : Agreed) (ql qh : LaneState) (n z : ℕ) (t : Settings) (al ah : Li
         line = (block_0 (lane_d qh ah) qh.position n z s.in-bounds.line.0 s.in-bounds.line.1, s.line.1);
       }
 
-  pub enter-low : 0 < ql.length → Sound g (station (sender ql qh n z no_lane false false t) al ah bl bh)
-      → Sound g (station (sender ql qh n z (sending low) false false t) al ah bl bh)
+  pub enter-low : 0 < ql.length → Sound g (station (sender ql qh n z None false false t) al ah bl bh)
+      → Sound g (station (sender ql qh n z (Some low) false false t) al ah bl bh)
   enter-low h s =
       record {
         agrees = s.agrees;
@@ -193,9 +194,9 @@ module _ (g : Agreed) (ql qh : LaneState) (n z : ℕ) (t : Settings) (al ah : Li
   -- whichever step applies
   sound-turn : (o : OnLine) (u c : Bool) (st : Step) → Turn g ql qh n z t al ah o u c st → Sound g (station (sender ql qh n z o u c t) al ah bl bh)
       → Sound g (after_step (station (sender ql qh n z o u c t) al ah bl bh) st)
-  sound-turn no_lane u c st cut-due s = true-false s.in-bounds.line.2
-  sound-turn (sending high) u c st cut-due s = true-false s.in-bounds.line.1
-  sound-turn (sending low) u c st cut-due s =
+  sound-turn None u c st cut-due s = true-false s.in-bounds.line.2
+  sound-turn (Some high) u c st cut-due s = true-false s.in-bounds.line.1
+  sound-turn (Some low) u c st cut-due s =
       record {
         agrees = s.agrees;
         in-bounds = (bounds.cut_keeps g ql qh n z t u s.in-bounds).bounds;

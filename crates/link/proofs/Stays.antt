@@ -5,12 +5,12 @@ use mathlib.Core.List.{List, [], ◌∷◌}
 use Prim.Native.Nat.{ℕ}
 use lib.Dec.{ltb, eqb}
 use lib.ListN.{length}
-use Rattle.std.specs.Prelude.{if◌then◌else◌}
+use Rattle.std.specs.Prelude.{if◌then◌else◌, Some, None}
 use Rattle.cobs.specs.CodeBlocks.{flag, from_line}
 use Rattle.cobs.proofs.Tests.{branch, decide}
 use Rattle.link.specs.Agreed.{Settings, Agreed, agreed, valid, most_decoded}
 use Rattle.link.specs.Answers.{refused}
-use Rattle.link.specs.Receiver.{Mode, kept_off, cobs, plain, escape_open, PlainReading, reading_off, reading_on, Receiver, Working, Ended, ReceiverEnd, Receive, escape_over, is_off, is_plain, in_bounds, begin_plain, at_plain_flag, begins_plain, work, aside, receive_cobs, receive_plain, receive}
+use Rattle.link.specs.Receiver.{Mode, kept_off, cobs, plain, escape_open, PlainReading, Receiver, Working, Ended, ReceiverEnd, Receive, escape_over, is_off, is_plain, in_bounds, begin_plain, at_plain_flag, begins_plain, work, aside, receive_cobs, receive_plain, receive}
 use Rattle.link.specs.ReceiverParts.{ReceiverReady}
 use Rattle.link.specs.EachCall.{ModeStays}
 use Rattle.link.specs.Runs.{received}
@@ -74,8 +74,8 @@ run-settings [] e = refl
 run-settings (x ∷ xs) e = run-settings xs (receive e x).after ∙ receive-settings e x
 
 pub fresh-settings : (t : Settings) (reading : PlainReading) (a b : List ℕ) → (fresh_receiver t reading a b).state.settings ≡ t
-fresh-settings t reading_off a b = refl
-fresh-settings t (reading_on map) a b = refl
+fresh-settings t None a b = refl
+fresh-settings t (Some map) a b = refl
 
 -- ---- the mode
 

@@ -4,11 +4,12 @@ use mathlib.Core.Bool.{Bool, true, false}
 use mathlib.Core.List.{List, [], ◌∷◌, ◌++◌}
 use Prim.Native.Nat.{ℕ}
 use native.Mathlib.Omega.{arith}
+use Rattle.std.specs.Prelude.{Some, None}
 use Rattle.cobs.specs.CodeBlocks.{flag, to_line}
 use Rattle.cobs.proofs.Exchange.{no_flag}
 use Rattle.link.specs.Agreed.{Settings, Agreed}
 use Rattle.link.specs.Answers.{Answer, octet, idle, refused}
-use Rattle.link.specs.Sender.{Lane, low, high, OnLine, no_lane, sending, LaneState, Out, closes, breaks_off, sends, sends_nothing, refuses, Step, out_answer, lane_d, next, put_frame}
+use Rattle.link.specs.Sender.{Lane, low, high, OnLine, LaneState, Out, closes, breaks_off, sends, sends_nothing, refuses, Step, out_answer, lane_d, next, put_frame}
 use Rattle.link.specs.Runs.{Station, under_way_after, under_way, Written, writes, written, after_load, after_next, run, SenderCall, loading, next_octet}
 use Rattle.link.proofs.Tests.{true-false}
 use Rattle.link.proofs.Way.{Way, ends, cuts, warns, goes, sender, Turn, cut-due, idles, resumes-low, begins-high, begins-low, high-on, low-on, by_next}
@@ -17,12 +18,12 @@ use Rattle.link.proofs.Sound.{Sound, by-load, sound-load, sound-next}
 
 -- a lane's packet is under way, by the lane on the line and the mark suspended
 abbrev pub under_way_by : Lane → OnLine → Bool → Bool
-under_way_by low no_lane u = u
-under_way_by low (sending low) u = true
-under_way_by low (sending high) u = u
-under_way_by high no_lane u = false
-under_way_by high (sending low) u = false
-under_way_by high (sending high) u = true
+under_way_by low None u = u
+under_way_by low (Some low) u = true
+under_way_by low (Some high) u = u
+under_way_by high None u = false
+under_way_by high (Some low) u = false
+under_way_by high (Some high) u = true
 
 -- only a flag is answered as 7E
 abbrev as_flag : Answer → Type 0
@@ -40,7 +41,7 @@ no-octet n e = absurd (let z : ◌≡◌ {A = ℕ} 0 1 = cc in omega arith)
 -- a call, with the lane o on the line and the mark u before it
 pub record After (o : OnLine) (u : Bool) (st : Step) : Type 0 where
   pub way : (l : Lane) → under_way_after l (under_way_by l o u) st.out ≡ under_way_by l st.state.on st.state.suspended
-  pub off : as_flag (out_answer st.out) → st.state.on ≡ no_lane
+  pub off : as_flag (out_answer st.out) → st.state.on ≡ None
 
 pub lanes : (P : Lane → Type 0) → P low → P high → (l : Lane) → P l
 lanes P h k low = h
@@ -48,7 +49,7 @@ lanes P h k high = k
 
 module _ (g : Agreed) (ql qh : LaneState) (n z : ℕ) (t : Settings) (d : List ℕ) where
   -- a lane goes on, or begins
-  high_goes : (u : Bool) (st : Step) → Way g high (sender ql qh n z (sending high) u false t) d st → After (sending high) u st
+  high_goes : (u : Bool) (st : Step) → Way g high (sender ql qh n z (Some high) u false t) d st → After (Some high) u st
   high_goes true st (ends over) = record { way = lanes _ refl refl; off = λ _. refl }
   high_goes false st (ends over) = record { way = lanes _ refl refl; off = λ _. refl }
   high_goes u st (cuts short e pre urgent f) = bounds.low-high e
@@ -56,7 +57,7 @@ module _ (g : Agreed) (ql qh : LaneState) (n z : ℕ) (t : Settings) (d : List �
   high_goes true st (goes x pos n' z' short v free) = record { way = lanes _ refl refl; off = λ i. plain (to_line x) i (no_flag x) }
   high_goes false st (goes x pos n' z' short v free) = record { way = lanes _ refl refl; off = λ i. plain (to_line x) i (no_flag x) }
 
-  high-begins : (u : Bool) (st : Step) → Way g high (sender ql qh n z (sending high) u false t) d st → After no_lane u st
+  high-begins : (u : Bool) (st : Step) → Way g high (sender ql qh n z (Some high) u false t) d st → After None u st
   high-begins true st (ends over) = record { way = lanes _ refl refl; off = λ _. refl }
   high-begins false st (ends over) = record { way = lanes _ refl refl; off = λ _. refl }
   high-begins u st (cuts short e pre urgent f) = bounds.low-high e
@@ -64,13 +65,13 @@ module _ (g : Agreed) (ql qh : LaneState) (n z : ℕ) (t : Settings) (d : List �
   high-begins true st (goes x pos n' z' short v free) = record { way = lanes _ refl refl; off = λ i. plain (to_line x) i (no_flag x) }
   high-begins false st (goes x pos n' z' short v free) = record { way = lanes _ refl refl; off = λ i. plain (to_line x) i (no_flag x) }
 
-  low_goes : (st : Step) → Way g low (sender ql qh n z (sending low) false false t) d st → After (sending low) false st
+  low_goes : (st : Step) → Way g low (sender ql qh n z (Some low) false false t) d st → After (Some low) false st
   low_goes st (ends over) = record { way = lanes _ refl refl; off = λ _. refl }
   low_goes st (cuts short e pre urgent f) = record { way = lanes _ refl refl; off = λ _. refl }
   low_goes st (warns short e pre urgent f) = record { way = lanes _ refl refl; off = λ i. plain 0x02 i (λ q. omega arith) }
   low_goes st (goes x pos n' z' short v free) = record { way = lanes _ refl refl; off = λ i. plain (to_line x) i (no_flag x) }
 
-  low-begins : (st : Step) → Way g low (sender ql qh n z (sending low) false false t) d st → After no_lane false st
+  low-begins : (st : Step) → Way g low (sender ql qh n z (Some low) false false t) d st → After None false st
   low-begins st (ends over) = record { way = lanes _ refl refl; off = λ _. refl }
   low-begins st (cuts short e pre urgent f) = record { way = lanes _ refl refl; off = λ _. refl }
   low-begins st (warns short e pre urgent f) = record { way = lanes _ refl refl; off = λ i. plain 0x02 i (λ q. omega arith) }
@@ -78,9 +79,9 @@ module _ (g : Agreed) (ql qh : LaneState) (n z : ℕ) (t : Settings) (d : List �
 
 module _ (g : Agreed) (ql qh : LaneState) (n z : ℕ) (t : Settings) (al ah : List ℕ) where
   after_turn : (o : OnLine) (u c : Bool) (st : Step) → Turn g ql qh n z t al ah o u c st → bounds.Bounds g (sender ql qh n z o u c t) → After o u st
-  after_turn no_lane u c st cut-due b = true-false b.line.2
-  after_turn (sending high) u c st cut-due b = true-false b.line.1
-  after_turn (sending low) u c st cut-due b = record { way = lanes _ refl refl; off = λ _. refl }
+  after_turn None u c st cut-due b = true-false b.line.2
+  after_turn (Some high) u c st cut-due b = true-false b.line.1
+  after_turn (Some low) u c st cut-due b = record { way = lanes _ refl refl; off = λ _. refl }
   after_turn o u c st (idles i j) b = record { way = lanes _ refl refl; off = λ k. silent k }
   after_turn o u c st (resumes-low i h) b = record { way = lanes _ refl refl; off = λ q. plain 0xD1 q (λ r. omega arith) }
   after_turn o u c st (begins-high h w) b = high-begins g ql qh n z t (lane_d qh ah) u st w
@@ -97,7 +98,7 @@ after_next_lem g w s =
     (λ st t.
     after_turn g r.low r.high r.left r.zeros r.settings e.low e.high r.on r.suspended r.cut st t s.in-bounds)
 
-pub flag_off : (g : Agreed) (w : Station) → Sound g w → as_flag (out_answer (next w.end).out) → (after_next w).end.state.on ≡ no_lane
+pub flag_off : (g : Agreed) (w : Station) → Sound g w → as_flag (out_answer (next w.end).out) → (after_next w).end.state.on ≡ None
 unfolding after_next
 flag_off g w s f = (after_next_lem g w s).off f
 

@@ -8,12 +8,13 @@ use native.Mathlib.Omega.{arith}
 use borrow.Author.Tests.{ltb-true}
 use lib.ListN.{length, take, drop, get_or, length-append}
 use lib.Seq.{take-nil, length-take-le, drop-cons}
+use Rattle.std.specs.Prelude.{Some, None}
 use Rattle.cobs.specs.CodeBlocks.{with_phantom, to_line, choice, line_octets, blocks, uninterrupted}
 use Rattle.cobs.proofs.Blocks.{on-line-nil, on-line-cons}
 use Rattle.cobs.proofs.Frame.{frame-sent, frame-next, frame-end}
 use Rattle.link.specs.Agreed.{Settings, Agreed, agreed}
 use Rattle.link.specs.Answers.{refused}
-use Rattle.link.specs.Sender.{Lane, low, high, OnLine, no_lane, sending, LaneState, Sender, SenderEnd, Load, Step, Out, closes, sends, lane_state, lane_area, lane_d, with_lane, with_block, with_line, put_frame}
+use Rattle.link.specs.Sender.{Lane, low, high, OnLine, LaneState, Sender, SenderEnd, Load, Step, Out, closes, sends, lane_state, lane_area, lane_d, with_lane, with_block, with_line, put_frame}
 use Rattle.link.specs.SenderParts.{SenderReady}
 use Rattle.link.specs.Runs.{SenderCall, loading, next_octet, Station, same_lane, is_done, loaded_by, after_step, after_load, after_next, loaded_into, writes, written}
 use Rattle.link.specs.Progress.{next_calls, SendsOf, SentUninterrupted, still_to_send, RestUninterrupted}
@@ -72,7 +73,7 @@ module _ (g : Agreed) (ql qh : LaneState) (n z : ℕ) (t : Settings) (al ah : Li
   end o u c = record { state = sender ql qh n z o u c t; low = al; high = ah }
 
   -- it goes on
-  goes_on : (l : Lane) (o : OnLine) (u c : Bool) (st : Step) → Turn g ql qh n z t al ah o u c st → o ≡ sending l → c ≡ false
+  goes_on : (l : Lane) (o : OnLine) (u c : Bool) (st : Step) → Turn g ql qh n z t al ah o u c st → o ≡ Some l → c ≡ false
       → Way g l (sender ql qh n z o u c t) (lane_d (lane_state l (sender ql qh n z o u c t)) (lane_area l (end o u c))) st
   goes_on l o u c st cut-due i j = true-false j
   goes_on l o u c st (idles h k) i j = line-free l (sym i)
@@ -85,9 +86,9 @@ module _ (g : Agreed) (ql qh : LaneState) (n z : ℕ) (t : Settings) (al ah : Li
   goes_on high o u c st (low-on w) i j = not-high (sym i)
 
   -- or begins
-  goes_first : (l : Lane) (o : OnLine) (u c : Bool) (st : Step) → Turn g ql qh n z t al ah o u c st → o ≡ no_lane → c ≡ false
+  goes_first : (l : Lane) (o : OnLine) (u c : Bool) (st : Step) → Turn g ql qh n z t al ah o u c st → o ≡ None → c ≡ false
       → 0 < (lane_state l (sender ql qh n z o u c t)).length → (l ≡ low → qh.length ≡ 0) → (l ≡ low → u ≡ false)
-      → Way g l (sender ql qh n z (sending l) u c t) (lane_d (lane_state l (sender ql qh n z o u c t)) (lane_area l (end o u c))) st
+      → Way g l (sender ql qh n z (Some l) u c t) (lane_d (lane_state l (sender ql qh n z o u c t)) (lane_area l (end o u c))) st
   goes_first l o u c st cut-due i j some free new = true-false j
   goes_first low o u c st (idles h k) i j some free new = absurd (omega arith)
   goes_first high o u c st (idles h k) i j some free new = absurd (omega arith)
@@ -121,7 +122,7 @@ lane-fits : (l : Lane) (e : SenderEnd) → SenderReady e → (lane_state l e.sta
 lane-fits low e r = (unrefused e r).low
 lane-fits high e r = (unrefused e r).high
 
-lane_room : (l : Lane) (s : Sender) → s.on ≡ sending l → bounds.LineOk s.on s.low s.high s.left s.zeros s.suspended s.cut
+lane_room : (l : Lane) (s : Sender) → s.on ≡ Some l → bounds.LineOk s.on s.low s.high s.left s.zeros s.suspended s.cut
     → bounds.Room (lane_state l s) s.left s.zeros
 lane_room low s e b = (rw e at b).0
 lane_room high s e b = (rw e at b).0
@@ -129,7 +130,7 @@ lane_room high s e b = (rw e at b).0
 module _ (g : Agreed) (l : Lane) (f : List ℕ) where
   -- the lane l is on the line, and nothing urgent breaks it off
   record Unbroken (s : Sender) : Type 0 where
-    on : s.on ≡ sending l
+    on : s.on ≡ Some l
     cut : s.cut ≡ false
     free : l ≡ low → g.pre ≡ true → s.high.length ≡ 0
 
@@ -306,20 +307,20 @@ sent-uninterrupted l w r b calls none =
     let f = take q.length (lane_area l e) in
     let octets = uninterrupted g.zxe f in
     let n = (unrefused e r).bounds in
-    let line : bounds.LineOk no_lane s.low s.high s.left s.zeros s.suspended s.cut = rw b.free at n.line in
-    let same = lane-same l (sending l) s in
-    let begins : OnLineWith g l f (with_line (sending l) s) =
+    let line : bounds.LineOk None s.low s.high s.left s.zeros s.suspended s.cut = rw b.free at n.line in
+    let same = lane-same l (Some l) s in
+    let begins : OnLineWith g l f (with_line (Some l) s) =
     record {
       line = record { on = refl; cut = line.2; free = λ h _. b.high_empty h };
       long = rw same (lane-long g l f e r refl);
       even = n.even;
       room = rw same (omega (arith, b.start, line.0, line.1));
     } in
-    let is : ahead g l f (with_line (sending l) s) ≡ octets =
+    let is : ahead g l f (with_line (Some l) s) ≡ octets =
     rw same (no-data g.zxe f q.position s.left s.zeros 0 line.0 (omega (arith, b.start, line.1)) ∙ sym (frame-sent g.zxe f)) in
     through g l f octets w calls refl r none
     (λ st t.
-    one-call g l f octets w calls (with_line (sending l) s) st
+    one-call g l f octets w calls (with_line (Some l) s) st
     (goes_first g s.low s.high s.left s.zeros s.settings e.low e.high l s.on s.suspended s.cut st t b.free line.2
     (ltb-true 0 q.length b.holds) b.high_empty b.not_suspended)
     begins is (rw same) (along g l f calls))

@@ -10,9 +10,10 @@ use native.Mathlib.Omega.{arith}
 use borrow.Author.Tests.{ltb-true, lt-ltb, le-ltb}
 use lib.Dec.{ltb}
 use lib.ListN.{replicate}
+use Rattle.std.specs.Prelude.{Some, None}
 use Rattle.link.specs.Agreed.{Settings, Agreed, agreed}
 use Rattle.link.specs.Answers.{done}
-use Rattle.link.specs.Sender.{Lane, low, high, OnLine, no_lane, sending, LaneState, Sender, Out, closes, breaks_off, sends, sends_nothing, refuses, Step, lane_d, load, next, put_frame}
+use Rattle.link.specs.Sender.{Lane, low, high, OnLine, LaneState, Sender, Out, closes, breaks_off, sends, sends_nothing, refuses, Step, lane_d, load, next, put_frame}
 use Rattle.link.specs.SenderParts.{SenderReady}
 use Rattle.link.specs.Runs.{Station, Written, SenderCall, loading, next_octet, writes, written, sent_by, is_of, loaded_by, after_load, after_next}
 use Rattle.link.specs.Progress.{broken_off_after, OnlyHighUntilD1, UrgentFirst}
@@ -32,10 +33,10 @@ way-high g s d st (warns short e pre urgent f) = bounds.low-high e
 way-high g s d st (goes x pos n z short v free) = refl
 
 module _ (g : Agreed) (ql qh : LaneState) (n z : ℕ) (t : Settings) (al ah : List ℕ) where
-  turn-free : (o : OnLine) (u c : Bool) (st : Step) → Turn g ql qh n z t al ah o u c st → bounds.Bounds g (sender ql qh n z o u c t) → o ≡ no_lane → 0 < qh.length
+  turn-free : (o : OnLine) (u c : Bool) (st : Step) → Turn g ql qh n z t al ah o u c st → bounds.Bounds g (sender ql qh n z o u c t) → o ≡ None → 0 < qh.length
       → is_of high st.out ≡ true
-  turn-free no_lane u c st cut-due b e h = true-false b.line.2
-  turn-free (sending l) u c st cut-due b e h = line-free l e
+  turn-free None u c st cut-due b e h = true-false b.line.2
+  turn-free (Some l) u c st cut-due b e h = line-free l e
   turn-free o u c st (idles i j) b e h = absurd (omega arith)
   turn-free o u c st (resumes-low i j) b e h = absurd (omega arith)
   turn-free o u c st (begins-high j w) b e h = way-high g _ _ st w
@@ -46,14 +47,14 @@ module _ (g : Agreed) (ql qh : LaneState) (n z : ℕ) (t : Settings) (al ah : Li
 -- ---- with low on the line
 
 module _ (g : Agreed) (ql qh : LaneState) (n z : ℕ) (t : Settings) (al ah : List ℕ) (pre : g.pre ≡ true) (h : 0 < qh.length) (short : ql.position ≤ ql.length) where
-  way-gives : (u : Bool) (d : List ℕ) (st : Step) → Way g low (sender ql qh n z (sending low) u false t) d st
+  way-gives : (u : Bool) (d : List ℕ) (st : Step) → Way g low (sender ql qh n z (Some low) u false t) d st
       → st.out ≡ cond (ltb 0 n) breaks_off (sends low 0x02)
   way-gives u d st (ends over) = absurd (omega arith)
   way-gives u d st (cuts k e p urgent f) = sym (if-so _ _ _ (lt-ltb 0 n f))
   way-gives u d st (warns k e p urgent f) = sym (if-not _ _ _ (le-ltb 0 n (omega arith)))
   way-gives u d st (goes x pos n' z' k v free) = absurd (omega (arith, free refl pre))
 
-  turn-gives : (o : OnLine) (u c : Bool) (st : Step) → Turn g ql qh n z t al ah o u c st → o ≡ sending low → c ≡ false
+  turn-gives : (o : OnLine) (u c : Bool) (st : Step) → Turn g ql qh n z t al ah o u c st → o ≡ Some low → c ≡ false
       → st.out ≡ cond (ltb 0 n) breaks_off (sends low 0x02)
   turn-gives o u c st cut-due e f = true-false f
   turn-gives o u c st (idles i j) e f = absurd (omega arith)
@@ -67,10 +68,10 @@ module _ (g : Agreed) (ql qh : LaneState) (n z : ℕ) (t : Settings) (al ah : Li
 
 -- with low on the line 02, with a cut due the flag, then the high lane's first octet
 abbrev away : OnLine → Bool → ℕ
-away no_lane c = 1
-away (sending low) true = 2
-away (sending low) false = 3
-away (sending high) c = 0
+away None c = 1
+away (Some low) true = 2
+away (Some low) false = 3
+away (Some high) c = 0
 
 record Nearer (n : ℕ) (s : Sender) : Type 0 where
   nearer : away s.on s.cut < n
@@ -78,7 +79,7 @@ record Nearer (n : ℕ) (s : Sender) : Type 0 where
   waits : 0 < s.high.length
 
 module _ (g : Agreed) (ql qh : LaneState) (n z : ℕ) (t : Settings) (al ah : List ℕ) (pre : g.pre ≡ true) (h : 0 < qh.length) where
-  way-nearer : (st : Step) → Way g low (sender ql qh n z (sending low) false false t) (lane_d ql al) st → Nearer 3 st.state
+  way-nearer : (st : Step) → Way g low (sender ql qh n z (Some low) false false t) (lane_d ql al) st → Nearer 3 st.state
   way-nearer st (ends over) = record { nearer = omega arith; before = omega arith; waits = h }
   way-nearer st (cuts short e p urgent f) = record { nearer = omega arith; before = omega arith; waits = h }
   way-nearer st (warns short e p urgent f) = record { nearer = omega arith; before = omega arith; waits = h }
@@ -86,9 +87,9 @@ module _ (g : Agreed) (ql qh : LaneState) (n z : ℕ) (t : Settings) (al ah : Li
 
   turn-nearer : (o : OnLine) (u c : Bool) (st : Step) → Turn g ql qh n z t al ah o u c st → bounds.Bounds g (sender ql qh n z o u c t) → 0 < away o c
       → (is_of high st.out ≡ true) ⊎ Nearer (away o c) st.state
-  turn-nearer no_lane u c st cut-due b k = true-false b.line.2
-  turn-nearer (sending high) u c st cut-due b k = true-false b.line.1
-  turn-nearer (sending low) u c st cut-due b k = inr (record { nearer = omega arith; before = omega arith; waits = h })
+  turn-nearer None u c st cut-due b k = true-false b.line.2
+  turn-nearer (Some high) u c st cut-due b k = true-false b.line.1
+  turn-nearer (Some low) u c st cut-due b k = inr (record { nearer = omega arith; before = omega arith; waits = h })
   turn-nearer o u c st (idles i j) b k = absurd (omega arith)
   turn-nearer o u c st (resumes-low i j) b k = absurd (omega arith)
   turn-nearer o u c st (begins-high j w) b k = inl (way-high g _ _ st w)
@@ -172,9 +173,9 @@ way-whole g l s d st off (goes x pos n z short v free) q = let i : ◌≡◌ {A 
 module _ (g : Agreed) (ql qh : LaneState) (n z : ℕ) (t : Settings) (al ah : List ℕ) (bl bh : Option (List ℕ)) where
   turn-whole : (o : OnLine) (u c : Bool) (st : Step) → Turn g ql qh n z t al ah o u c st → Sound g (station (sender ql qh n z o u c t) al ah bl bh) → g.pre ≡ false
       → st.out ≡ breaks_off → ⊥
-  turn-whole no_lane u c st cut-due i off q = true-false i.in-bounds.line.2
-  turn-whole (sending high) u c st cut-due i off q = true-false i.in-bounds.line.1
-  turn-whole (sending low) u c st cut-due i off q = true-false (sym i.line.0.pre ∙ off)
+  turn-whole None u c st cut-due i off q = true-false i.in-bounds.line.2
+  turn-whole (Some high) u c st cut-due i off q = true-false i.in-bounds.line.1
+  turn-whole (Some low) u c st cut-due i off q = true-false (sym i.line.0.pre ∙ off)
   turn-whole o u c st (idles f h) i off q = let j : ◌≡◌ {A = ℕ} 0 1 = cc in omega arith
   turn-whole o u c st (resumes-low f h) i off q = let j : ◌≡◌ {A = ℕ} 0 1 = cc in omega arith
   turn-whole o u c st (begins-high h w) i off q = way-whole g high _ _ st off w q
@@ -224,13 +225,13 @@ record Until (b : Bool) (st : Step) : Type 0 where
   still : broken_off_after b st.out ≡ true → st.state.suspended ≡ true
 
 module _ (g : Agreed) (ql qh : LaneState) (n z : ℕ) (t : Settings) (b : Bool) where
-  high-until : (u : Bool) (d : List ℕ) → (b ≡ true → u ≡ true) → (st : Step) → Way g high (sender ql qh n z (sending high) u false t) d st → Until b st
+  high-until : (u : Bool) (d : List ℕ) → (b ≡ true → u ≡ true) → (st : Step) → Way g high (sender ql qh n z (Some high) u false t) d st → Until b st
   high-until u d h st (ends over) = record { only = λ _. inl refl; still = h }
   high-until u d h st (cuts short e pre urgent f) = bounds.low-high e
   high-until u d h st (warns short e pre urgent f) = bounds.low-high e
   high-until u d h st (goes x pos n' z' short v free) = record { only = λ _. inl refl; still = h }
 
-  low-until : (d : List ℕ) → (b ≡ true → false ≡ true) → (st : Step) → Way g low (sender ql qh n z (sending low) false false t) d st → Until b st
+  low-until : (d : List ℕ) → (b ≡ true → false ≡ true) → (st : Step) → Way g low (sender ql qh n z (Some low) false false t) d st → Until b st
   low-until d h st (ends over) = record { only = λ q. false-true (h q); still = h }
   low-until d h st (cuts short e pre urgent f) = record { only = λ q. false-true (h q); still = λ _. refl }
   low-until d h st (warns short e pre urgent f) = record { only = λ q. false-true (h q); still = λ q. false-true q }
@@ -238,9 +239,9 @@ module _ (g : Agreed) (ql qh : LaneState) (n z : ℕ) (t : Settings) (b : Bool) 
 
   turn-until : (al ah : List ℕ) (o : OnLine) (u c : Bool) (st : Step) → Turn g ql qh n z t al ah o u c st → bounds.Bounds g (sender ql qh n z o u c t)
       → (b ≡ true → u ≡ true) → Until b st
-  turn-until al ah no_lane u c st cut-due k h = true-false k.line.2
-  turn-until al ah (sending high) u c st cut-due k h = true-false k.line.1
-  turn-until al ah (sending low) u c st cut-due k h = record { only = λ q. false-true (sym k.line.1 ∙ h q); still = λ _. refl }
+  turn-until al ah None u c st cut-due k h = true-false k.line.2
+  turn-until al ah (Some high) u c st cut-due k h = true-false k.line.1
+  turn-until al ah (Some low) u c st cut-due k h = record { only = λ q. false-true (sym k.line.1 ∙ h q); still = λ _. refl }
   turn-until al ah o u c st (idles i j) k h = record { only = λ _. tt; still = h }
   turn-until al ah o u c st (resumes-low i j) k h = record { only = λ _. inr refl; still = λ q. false-true q }
   turn-until al ah o u c st (begins-high j w) k h = high-until u (lane_d qh ah) h st w

@@ -8,10 +8,11 @@ use native.Mathlib.Omega.{arith}
 use borrow.Author.Tests.{ltb-true, ltb-false, eqb-true, eqb-false, not-true, not-false}
 use lib.Dec.{ltb, eqb}
 use lib.ListN.{length, drop, get_or}
+use Rattle.std.specs.Prelude.{Some, None}
 use Rattle.cobs.specs.CodeBlocks.{to_line, choice}
 use Rattle.cobs.proofs.Tests.{branch, and_left, and_right}
 use Rattle.link.specs.Agreed.{Settings, Agreed, agreed, largest_frame, valid}
-use Rattle.link.specs.Sender.{Lane, low, high, OnLine, no_lane, sending, LaneState, Sender, SenderEnd, Step, closes, breaks_off, sends, sends_nothing, refuses, empty_lane, lane_state, loaded, lane_d, with_lane, with_block, with_line, with_marks, is_low, step1_cut_due, step4_break_off, step5_data, step6_code, steps_3_to_6, step2_no_lane, steps_1_to_6, in_bounds, next}
+use Rattle.link.specs.Sender.{Lane, low, high, OnLine, LaneState, Sender, SenderEnd, Step, closes, breaks_off, sends, sends_nothing, refuses, empty_lane, lane_state, loaded, lane_d, with_lane, with_block, with_line, with_marks, is_low, step1_cut_due, step4_break_off, step5_data, step6_code, steps_3_to_6, step2_no_lane, steps_1_to_6, in_bounds, next}
 use Rattle.link.proofs.Tests.{false-true}
 
 -- An octet of D, with n data octets left and z zeros due: the octet, and position, data left and zeros due behind it. The last data
@@ -26,9 +27,9 @@ pub data Advance (zxe : Bool) (d : List ℕ) (pos n z : ℕ) : ℕ → ℕ → �
 
 -- A closing flag; a flag that breaks off; 02 before one; an octet of D, where nothing urgent waits.
 pub data Way (g : Agreed) (l : Lane) (s : Sender) (d : List ℕ) : Step → Type 0 where
-  ends : (lane_state l s).length < (lane_state l s).position → Way g l s d (record { out = closes l; state = with_line no_lane (with_lane l empty_lane s) })
+  ends : (lane_state l s).length < (lane_state l s).position → Way g l s d (record { out = closes l; state = with_line None (with_lane l empty_lane s) })
   cuts : (lane_state l s).position ≤ (lane_state l s).length → l ≡ low → g.pre ≡ true → 0 < s.high.length → 0 < s.left
-      → Way g l s d (record { out = breaks_off; state = with_line no_lane (with_marks true s.cut (with_block 0 0 s)) })
+      → Way g l s d (record { out = breaks_off; state = with_line None (with_marks true s.cut (with_block 0 0 s)) })
   warns : (lane_state l s).position ≤ (lane_state l s).length → l ≡ low → g.pre ≡ true → 0 < s.high.length → s.left ≡ 0
       → Way g l s d (record { out = sends low 0x02; state = with_marks s.suspended true s })
   goes : (x pos n z : ℕ) → (lane_state l s).position ≤ (lane_state l s).length → Advance g.zxe d (lane_state l s).position s.left s.zeros x pos n z
@@ -101,40 +102,40 @@ module _ (g : Agreed) (ql qh : LaneState) (n z : ℕ) (t : Settings) (al ah : Li
   -- By the lane on the line and the marks *suspended* and *cut due*: the cut; nothing; D1; a lane begins; a lane goes on.
   pub data Turn : OnLine → Bool → Bool → Step → Type 0 where
     cut-due : {o : OnLine} {u : Bool} → Turn o u true (step1_cut_due (sender ql qh n z o u true t))
-    idles : {u : Bool} → qh.length ≡ 0 → ql.length ≡ 0 → Turn no_lane u false (record { out = sends_nothing; state = sender ql qh n z no_lane u false t })
-    resumes-low : qh.length ≡ 0 → 0 < ql.length → Turn no_lane true false (record { out = sends low 0xD1; state = sender ql qh n z (sending low) false false t })
-    begins-high : {u : Bool} {st : Step} → 0 < qh.length → Way g high (sender ql qh n z (sending high) u false t) (lane_d qh ah) st
-        → Turn no_lane u false st
-    begins-low : {st : Step} → qh.length ≡ 0 → 0 < ql.length → Way g low (sender ql qh n z (sending low) false false t) (lane_d ql al) st
-        → Turn no_lane false false st
-    high-on : {u : Bool} {st : Step} → Way g high (sender ql qh n z (sending high) u false t) (lane_d qh ah) st → Turn (sending high) u false st
-    low-on : {u : Bool} {st : Step} → Way g low (sender ql qh n z (sending low) u false t) (lane_d ql al) st → Turn (sending low) u false st
+    idles : {u : Bool} → qh.length ≡ 0 → ql.length ≡ 0 → Turn None u false (record { out = sends_nothing; state = sender ql qh n z None u false t })
+    resumes-low : qh.length ≡ 0 → 0 < ql.length → Turn None true false (record { out = sends low 0xD1; state = sender ql qh n z (Some low) false false t })
+    begins-high : {u : Bool} {st : Step} → 0 < qh.length → Way g high (sender ql qh n z (Some high) u false t) (lane_d qh ah) st
+        → Turn None u false st
+    begins-low : {st : Step} → qh.length ≡ 0 → 0 < ql.length → Way g low (sender ql qh n z (Some low) false false t) (lane_d ql al) st
+        → Turn None false false st
+    high-on : {u : Bool} {st : Step} → Way g high (sender ql qh n z (Some high) u false t) (lane_d qh ah) st → Turn (Some high) u false st
+    low-on : {u : Bool} {st : Step} → Way g low (sender ql qh n z (Some low) u false t) (lane_d ql al) st → Turn (Some low) u false st
 
   low_turn : (u : Bool) → qh.length ≡ 0 → 0 < ql.length
-      → Turn no_lane u false
-      (cond u (record { out = sends low 0xD1; state = sender ql qh n z (sending low) false false t })
-      (steps_3_to_6 g low (sender ql qh n z (sending low) u false t) (lane_d ql al)))
+      → Turn None u false
+      (cond u (record { out = sends low 0xD1; state = sender ql qh n z (Some low) false false t })
+      (steps_3_to_6 g low (sender ql qh n z (Some low) u false t) (lane_d ql al)))
   low_turn true e h = resumes-low e h
-  low_turn false e h = begins-low e h (way g (sender ql qh n z (sending low) false false t) (lane_d ql al) low)
+  low_turn false e h = begins-low e h (way g (sender ql qh n z (Some low) false false t) (lane_d ql al) low)
 
   pub turn : (o : OnLine) (u c : Bool) → Turn o u c (steps_1_to_6 g (record { state = sender ql qh n z o u c t; low = al; high = ah }) c o)
   unfolding steps_1_to_6 step2_no_lane
   turn o u true = cut-due
-  turn (sending high) u false = high-on (way g (sender ql qh n z (sending high) u false t) (lane_d qh ah) high)
-  turn (sending low) u false = low-on (way g (sender ql qh n z (sending low) u false t) (lane_d ql al) low)
-  turn no_lane u false =
-      branch (Turn no_lane u false) (loaded qh)
-      (λ e. begins-high (ltb-true 0 qh.length e) (way g (sender ql qh n z (sending high) u false t) (lane_d qh ah) high))
+  turn (Some high) u false = high-on (way g (sender ql qh n z (Some high) u false t) (lane_d qh ah) high)
+  turn (Some low) u false = low-on (way g (sender ql qh n z (Some low) u false t) (lane_d ql al) low)
+  turn None u false =
+      branch (Turn None u false) (loaded qh)
+      (λ e. begins-high (ltb-true 0 qh.length e) (way g (sender ql qh n z (Some high) u false t) (lane_d qh ah) high))
       (λ e.
       let none-high : qh.length ≡ 0 = omega (arith, ltb-false 0 qh.length e) in
-      branch (Turn no_lane u false) (not (loaded ql)) (λ f. idles none-high (omega (arith, ltb-false 0 ql.length (not-true (loaded ql) f))))
+      branch (Turn None u false) (not (loaded ql)) (λ f. idles none-high (omega (arith, ltb-false 0 ql.length (not-true (loaded ql) f))))
       (λ f. low_turn u none-high (ltb-true 0 ql.length (not-false (loaded ql) f))))
 
 -- no two of the lines are the same
-pub line-free : {Q : Type 0} (l : Lane) → sending l ≡ no_lane → Q
+pub line-free : {Q : Type 0} (l : Lane) → Some l ≡ None → Q
 line-free l e = absurd (let z : ◌≡◌ {A = ℕ} 0 1 = cc in omega arith)
 
-pub not-high : {Q : Type 0} → sending high ≡ sending low → Q
+pub not-high : {Q : Type 0} → Some high ≡ Some low → Q
 not-high e = absurd (let z : ◌≡◌ {A = ℕ} 0 1 = cc in omega arith)
 
 -- what holds of a refused call and of every such step holds of next octet

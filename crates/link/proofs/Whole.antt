@@ -9,13 +9,14 @@ use native.Mathlib.Omega.{arith}
 use borrow.Author.Tests.{eqb-true, eqb-false, eq-eqb, not-true}
 use lib.Dec.{ltb, eqb}
 use lib.ListN.{length, take}
+use Rattle.std.specs.Prelude.{None}
 use Rattle.fcs.specs.CheckSequence.{good}
 use Rattle.cobs.specs.CodeBlocks.{flag, from_line}
 use Rattle.cobs.proofs.Tests.{branch, decide, and_left, and_right}
 use Rattle.cobs.proofs.Exchange.{from-other}
 use Rattle.link.specs.Agreed.{Agreed, agreed, valid, least_frame, most_decoded}
 use Rattle.link.specs.Answers.{Answer, quiet, packet, refused}
-use Rattle.link.specs.Receiver.{Fragment, nothing_held, Mode, kept_off, cobs, plain, escape_open, Receiver, Working, ReceiverEnd, Receive, Ended, out_of_frame, escape_over, is_off, is_plain, is_escaped, in_bounds, no_block_open, step5_end, step5_without_phantom, steps_1_to_4, plain_octet, begin_plain, at_plain_flag, begins_plain, work, aside, put_back, quietly, receive_plain, receive}
+use Rattle.link.specs.Receiver.{Held, Mode, kept_off, cobs, plain, escape_open, Receiver, Working, ReceiverEnd, Receive, Ended, out_of_frame, escape_over, is_off, is_plain, is_escaped, in_bounds, no_block_open, step5_end, step5_without_phantom, steps_1_to_4, plain_octet, begin_plain, at_plain_flag, begins_plain, work, aside, put_back, quietly, receive_plain, receive}
 use Rattle.link.specs.ReceiverParts.{ReceiverReady}
 use Rattle.link.proofs.Tests.{or_cases, true-false, not-below}
 use Rattle.link.proofs.Agreed.{limit-at-least}
@@ -139,7 +140,7 @@ pub record PlainEnds (g : Agreed) (t : Ended) : Type 0 where
   pub tells : OfFrame t.report
 
 module _ (g : Agreed) (r : Receiver) (ag : agreed r.settings ≡ g) (b : PlainBounds g r) where
-  out-in : (turn : Bool) (h : Fragment) → HeldOk g h → PlainBounds g (out_of_frame r turn h)
+  out-in : (turn : Bool) (h : Held) → HeldOk g h → PlainBounds g (out_of_frame r turn h)
   out-in turn h k =
       record {
         deep = omega arith;
@@ -157,7 +158,7 @@ module _ (g : Agreed) (r : Receiver) (ag : agreed r.settings ≡ g) (b : PlainBo
   end-in : (a : Answer) → OfFrame a → PlainEnds g (step5_end a r)
   end-in a t =
       by_end (λ (s : Receiver). PlainEnds g (record { report = a; state = s })) r
-      (λ _. record { agrees = ag; bounds = out-in r.turn nothing_held tt; out = refl; tells = t })
+      (λ _. record { agrees = ag; bounds = out-in r.turn None tt; out = refl; tells = t })
       (λ _. record { agrees = ag; bounds = out-in r.turn r.held b.holds; out = refl; tells = t })
 
   whole_in : (area : List ℕ) (n : ℕ) → PlainEnds g (step5_without_phantom g r area n)

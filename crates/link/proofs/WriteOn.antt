@@ -8,12 +8,13 @@ use native.Mathlib.Omega.{arith}
 use borrow.Author.Tests.{ne_eqb, not-false}
 use lib.Dec.{ltb, eqb}
 use lib.ListN.{length, get_or}
+use Rattle.std.specs.Prelude.{Some}
 use Rattle.cobs.specs.CodeBlocks.{flag, to_line}
 use Rattle.cobs.proofs.Exchange.{no_flag}
 use Rattle.cobs.proofs.Tests.{branch}
 use Rattle.link.specs.Agreed.{agreed, largest_frame, most_decoded, valid}
 use Rattle.link.specs.Answers.{octet}
-use Rattle.link.specs.Sender.{Lane, low, high, sending, Sender, SenderEnd, Step, Next, lane_area, lane_state, in_bounds, with_block, position_up, step5_data, out_answer, next, seen}
+use Rattle.link.specs.Sender.{Lane, low, high, Sender, SenderEnd, Step, Next, lane_area, lane_state, in_bounds, with_block, position_up, step5_data, out_answer, next, seen}
 use Rattle.link.specs.SenderParts.{SenderReady}
 use Rattle.link.specs.Runs.{after_next}
 use Rattle.link.proofs.D as D
@@ -52,7 +53,7 @@ sent n l s = with_block (s.left - n) s.zeros (position_up n l s)
 -- the lane is on the line and has more than n data octets left; a low one is alone
 pub record Stretch (l : Lane) (n : ℕ) (e : SenderEnd) : Type 0 where
   pub ready : SenderReady e
-  pub on : e.state.on ≡ sending l
+  pub on : e.state.on ≡ Some l
   pub more : n ≤ e.state.left - 1
   pub alone : l ≡ low → e.state.high.length ≡ 0
 
@@ -71,13 +72,13 @@ module _ (n : ℕ) (e : SenderEnd) where
       let b = h.ready in
       let r = low-on s b.valid b.bounds e.low b.low h.on in
       let short = none-short _ _ _ (b.low, b.high) in
-      sym (ap seen (low-sends e b.valid short b.bounds (omega (arith, h.more)) h.on (h.alone refl))
+      sym (low-sends e b.valid short (record { data_left = omega (arith, h.more); bounds = λ _. b.bounds }, h.alone refl) h.on
       ∙ data-sent low _ e.low (omega (arith, h.more)) (D.before s.low.length e.low s.low.position (omega (arith, h.more, r.in_d))))
   first high h =
       let b = h.ready in
       let r = high-on s b.valid b.bounds e.high b.high h.on in
       let short = none-short _ _ _ (b.low, b.high) in
-      sym (ap seen (high-sends e b.valid short b.bounds (omega (arith, h.more)) h.on)
+      sym (high-sends e b.valid short (record { data_left = omega (arith, h.more); bounds = λ _. b.bounds }) h.on
       ∙ data-sent high _ e.high (omega (arith, h.more)) (D.before s.high.length e.high s.high.position (omega (arith, h.more, r.in_d))))
 
   -- the place is inside the area
@@ -94,7 +95,7 @@ module _ (n : ℕ) (e : SenderEnd) where
         alone = alone l h.alone;
       }
     where
-      on_line : (k : Lane) → (sent 1 k s).on ≡ sending l
+      on_line : (k : Lane) → (sent 1 k s).on ≡ Some l
       on_line low = h.on
       on_line high = h.on
 
@@ -107,6 +108,6 @@ pub plain : (x : ℕ) → eqb (to_line x) flag ≡ false
 plain x = ne_eqb (to_line x) flag (no_flag x)
 
 -- a block that is inside its lane's area
-pub block-in-area : (l : Lane) (e : SenderEnd) → SenderReady e → e.state.on ≡ sending l → (lane_state l e.state).position + e.state.left ≤ most_decoded (agreed e.state.settings)
+pub block-in-area : (l : Lane) (e : SenderEnd) → SenderReady e → e.state.on ≡ Some l → (lane_state l e.state).position + e.state.left ≤ most_decoded (agreed e.state.settings)
 block-in-area low e b o = let r = low-on e.state b.valid b.bounds e.low b.low o in omega (arith, r.in_d, r.short)
 block-in-area high e b o = let r = high-on e.state b.valid b.bounds e.high b.high o in omega (arith, r.in_d, r.short)

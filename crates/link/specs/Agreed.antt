@@ -1,11 +1,14 @@
 -- What both ends agreed on (docs/READING.md, "What was agreed"; document 01, "Code blocks", and document 02, slips 1 and 11), and the bounds
 -- that follow from it.
-use Rattle.std.specs.Prelude.{Bool, ◌&&◌, ◌||◌, ℕ, ◌+◌, ◌/◌, ◌%◌, leb, eqb}
+use Rattle.std.specs.Prelude.{Bool, not, ◌&&◌, ◌||◌, ℕ, ◌+◌, ◌/◌, ◌%◌, leb, eqb, Result, Ok, Err}
 use Rattle.std.specs.Prelude.{if◌then◌else◌}
 use Rattle.fcs.specs.CheckSequence.{Check, check16, check32}
 -- The settings, which either end is opened with and keeps (declared in src/lib.rt): the settings octet, the width of the check in bits, and the
 -- limit. All three are numbers that a caller hands in.
 pub use Rattle.link.specs.declared.Settings.{Settings}
+-- why an end is not opened with them (declared there too)
+pub use Rattle.link.specs.declared.OpenError.{OpenError}
+pub use Rattle.link.specs.declared.OpenError.TheVariants.{Limit as limit_refused, Width as width_refused}
 
 -- ZXE allows the codes D3-FE, PRE allows preemption; limit, document 02's word: the octets of the largest packet
 pub record Agreed : Type 0 where
@@ -43,6 +46,13 @@ valid_limit g = leb least_packet g.limit && leb g.limit largest_limit
 
 unfoldable pub valid : Agreed → Bool
 valid g = valid_width g && valid_limit g
+
+-- the opening of an end: refused of a limit out of range, and then of any width but 16 or 32; else the end
+abbrev pub opening : {A : Type 0} → Settings → A → Result A OpenError
+opening settings end =
+    if not (valid_limit (agreed settings)) then Err limit_refused
+    else if not (valid_width (agreed settings)) then Err width_refused
+    else Ok end
 
 -- the fewest and the most octets of a frame: with 16 bits 4 and two more than the limit, with 32 bits 6 and four more
 abbrev pub least_frame : Agreed → ℕ

@@ -1,5 +1,5 @@
 -- The demands (docs/DEMANDS.md), each proved in proofs/. What a call answers is said by its contract; here is what follows of all calls.
-use Rattle.std.specs.Prelude.{Bool, true, false, not, ◌&&◌, ◌||◌, ◌≡◌, ℕ, ◌+◌, ◌/◌, ◌^◌, ◌≤◌, eqb, length, take, replicate}
+use Rattle.std.specs.Prelude.{Bool, true, false, not, ◌&&◌, ◌||◌, ◌≡◌, ℕ, ◌+◌, ◌/◌, ◌^◌, ◌≤◌, eqb, length, take, replicate, Some, None}
 use mathlib.Core.List.{List, [], ◌∷◌, ◌++◌, map, Memᴰ}
 use Rattle.std.proofs.Math.Option.{Option, some}
 use Rattle.fcs.specs.CheckSequence.{width, register, Burst}
@@ -8,7 +8,7 @@ use Rattle.link.specs.Agreed.{Settings, agreed, valid, least_packet, largest_fra
 use Rattle.link.specs.Answers.{Answer, octet, idle, quiet, held, refused}
 use Rattle.link.specs.Sender.{Lane, low, high, Sender, SenderEnd, out_answer, load, next}
 use Rattle.link.specs.Sender as sender
-use Rattle.link.specs.Receiver.{Fragment, nothing_held, holds, kept_off, cobs, plain, PlainReading, Receiver, ReceiverEnd, Receive, area_of, aside, carried, is_plain, put_back, receive}
+use Rattle.link.specs.Receiver.{Held, holds, kept_off, cobs, plain, PlainReading, Receiver, ReceiverEnd, Receive, area_of, aside, carried, is_plain, put_back, receive}
 use Rattle.link.specs.Receiver as receiver
 use Rattle.link.specs.ReceiverParts.{ReceiverReady}
 use Rattle.link.specs.Runs.{SenderCall, loading, next_octet, Station, fresh_station, after_next, run, sender_answers, loaded_into, Written, written, written_octets, sent_by, at_true, at_false, receives, received, packet_in, packets_in, refusals_in, under_way, left_aside, AllArrive, AllAsExpected, closed_packets}
@@ -155,9 +155,9 @@ Demand3 settings reading =
 -- ---- what the reports depend on
 
 -- what is held: the first octets of the area that does not work
-abbrev pub held_octets : Fragment → List ℕ → List ℕ
-held_octets nothing_held area = []
-held_octets (holds n k) area = take n area
+abbrev pub held_octets : Held → List ℕ → List ℕ
+held_octets None area = []
+held_octets (Some h) area = take h.count area
 
 -- two receivers alike in their states, in the decoded octets of their work areas and in what they hold
 pub record Alike (e f : ReceiverEnd) : Type 0 where
@@ -191,7 +191,7 @@ NoHeldReport hs = (h : Receive) (n : ℕ) (replaced : Bool) → Memᴰ h hs → 
 
 -- the receiver out of a frame, with nothing held; the settings, the mode and the map, the turn of the areas and the areas are as they were
 abbrev pub cleared_state : Receiver → Receiver
-cleared_state r = receiver.fresh r.settings r.mode r.map r.turn nothing_held
+cleared_state r = receiver.fresh r.settings r.mode r.map r.turn None
 
 abbrev pub cleared : ReceiverEnd → ReceiverEnd
 cleared e = record { state = cleared_state e.state; first = e.first; second = e.second }
@@ -231,8 +231,8 @@ pub record Restart : Type 0 where
       → f.state ≡ (cleared e).state
       → (line : List ℕ) → map report_and_packet (receives e (0xFF ∷ line)) ≡ map report_and_packet (receives f (0xFF ∷ line))
   pub until_held : (e : ReceiverEnd) → OutOfCobsFrame e → (line : List ℕ) → NoHeldReport (receives e (0xFF ∷ line))
-      → (received e (0xFF ∷ line)).state.held ≡ nothing_held
-  pub none_to_resume : (e : ReceiverEnd) → OutOfCobsFrame e → (agreed e.state.settings).pre ≡ true → e.state.held ≡ nothing_held
+      → (received e (0xFF ∷ line)).state.held ≡ None
+  pub none_to_resume : (e : ReceiverEnd) → OutOfCobsFrame e → (agreed e.state.settings).pre ≡ true → e.state.held ≡ None
       → (rest : List ℕ) → (Memᴰ flag rest → ⊥) → (receive (received e (0xD1 ∷ rest)) flag).report ≡ refused 8
   pub bounds : (r : Receiver) (n k : ℕ) → r.refusal ≡ 5 → r.held ≡ holds n k → receiver.in_bounds (agreed r.settings) r ≡ false
 

@@ -1,13 +1,13 @@
 -- What holds of every single call (docs/DEMANDS.md; document 01, "Sender" and "Receiver"; document 02, slips 4, 5 and 8): what it leaves as it was, and
 -- what becomes of what is held. The steps say it too, each for itself; here it is said of the whole call.
-use Rattle.std.specs.Prelude.{Bool, true, false, not, ◌&&◌, List, ◌⊎◌, ◌≡◌, ℕ, ◌+◌, ◌≤◌, ◌<◌, eqb, length, take, drop}
+use Rattle.std.specs.Prelude.{Bool, true, false, not, ◌&&◌, List, ◌⊎◌, ◌≡◌, ℕ, ◌+◌, ◌≤◌, ◌<◌, eqb, length, take, drop, None, Ok, Err}
 use Rattle.std.specs.Prelude.{if◌then◌else◌}
 use Rattle.fcs.specs.CheckSequence.{register, good}
 use Rattle.cobs.specs.CodeBlocks.{frame, flag, from_line}
-use Rattle.link.specs.Agreed.{Settings, Agreed, agreed, valid_width, valid_limit, valid, least_packet, largest_frame, most_decoded}
-use Rattle.link.specs.Answers.{Answer, done, octet, idle, quiet, packet, held, refused}
-use Rattle.link.specs.Sender.{Lane, no_lane, Sender, SenderEnd, Load, closes, empty_lane, opened_sender, open_sender, lane_state, with_lane, out_answer, load, next}
-use Rattle.link.specs.Receiver.{Fragment, nothing_held, holds, no_block, kept_off, cobs, plain, PlainReading, Receiver, ReceiverEnd, Receive, out_of_frame, opened_receiver, open_receiver, is_held, is_plain, begins_plain, area_of, aside, receive}
+use Rattle.link.specs.Agreed.{Settings, Agreed, agreed, valid_width, valid_limit, valid, least_packet, largest_frame, most_decoded, limit_refused, width_refused}
+use Rattle.link.specs.Answers.{Answer, done, octet, idle, quiet, packet, held, refused, open_refusal}
+use Rattle.link.specs.Sender.{Lane, Sender, SenderEnd, Load, closes, empty_lane, opened_sender, open_sender, lane_state, with_lane, out_answer, load, next}
+use Rattle.link.specs.Receiver.{holds, no_block, kept_off, cobs, plain, PlainReading, Receiver, ReceiverEnd, Receive, out_of_frame, opened_receiver, open_receiver, is_held, is_plain, begins_plain, area_of, aside, receive, Held}
 use Rattle.link.specs.Sender as sender
 use Rattle.link.specs.Receiver as receiver
 use Rattle.link.specs.ReceiverParts.{ReceiverReady}
@@ -17,18 +17,19 @@ use Rattle.link.specs.ReceiverParts.{ReceiverReady}
 -- Settings that are not valid: the opening of an end is refused 23 of the limit, whatever the width, and else 3 of the width; and every call
 -- on a state that has them is refused 3, whatever else it is handed. Any other settings open an end.
 pub record ValidFirst : Type 0 where
-  pub sender_limit : (settings : Settings) → valid_limit (agreed settings) ≡ false → open_sender settings ≡ sender.refused_opening 23
-  pub receiver_limit : (settings : Settings) (reading : PlainReading) → valid_limit (agreed settings) ≡ false → open_receiver settings reading ≡ receiver.refused_opening 23
+  pub sender_limit : (settings : Settings) → valid_limit (agreed settings) ≡ false → open_sender settings ≡ Err limit_refused
+  pub receiver_limit : (settings : Settings) (reading : PlainReading) → valid_limit (agreed settings) ≡ false → open_receiver settings reading ≡ Err limit_refused
   pub sender_width : (settings : Settings) → valid_limit (agreed settings) ≡ true → valid_width (agreed settings) ≡ false
-      → open_sender settings ≡ sender.refused_opening 3
+      → open_sender settings ≡ Err width_refused
   pub receiver_width : (settings : Settings) (reading : PlainReading) → valid_limit (agreed settings) ≡ true → valid_width (agreed settings) ≡ false
-      → open_receiver settings reading ≡ receiver.refused_opening 3
+      → open_receiver settings reading ≡ Err width_refused
+  pub opening_numbers : (open_refusal limit_refused ≡ 23) × (open_refusal width_refused ≡ 3)
   pub load : (l : Lane) (p : List ℕ) (s : Sender) (area : List ℕ) → valid (agreed s.settings) ≡ false → (load l p s area).answer ≡ refused 3
   pub next : (e : SenderEnd) → valid (agreed e.state.settings) ≡ false → out_answer (next e).out ≡ refused 3
   pub receive : (e : ReceiverEnd) (x : ℕ) → valid (agreed e.state.settings) ≡ false → (receive e x).report ≡ refused 3
-  pub sender_opens : (settings : Settings) → valid (agreed settings) ≡ true → open_sender settings ≡ sender.opened (opened_sender settings)
+  pub sender_opens : (settings : Settings) → valid (agreed settings) ≡ true → open_sender settings ≡ Ok (opened_sender settings)
   pub receiver_opens : (settings : Settings) (reading : PlainReading) → valid (agreed settings) ≡ true
-      → open_receiver settings reading ≡ receiver.opened (opened_receiver settings reading)
+      → open_receiver settings reading ≡ Ok (opened_receiver settings reading)
 
 -- With valid settings an area that is too short is refused 2, whatever the state; then a state out of bounds 3, whatever else is handed in; and
 -- of a load then a lane that holds a frame 4, whatever the packet. (What 1 refuses is `PacketLengths`.)
@@ -102,7 +103,7 @@ FiveIfOff = (e : ReceiverEnd) (x : ℕ) → (receive e x).report ≡ refused 5 �
 
 -- leaves its lane as it was opened, and no lane on the line
 abbrev pub ClosedIsEmpty : Type 0
-ClosedIsEmpty = (e : SenderEnd) (l : Lane) → (next e).out ≡ closes l → (lane_state l (next e).state ≡ empty_lane) × ((next e).state.on ≡ no_lane)
+ClosedIsEmpty = (e : SenderEnd) (l : Lane) → (next e).out ≡ closes l → (lane_state l (next e).state ≡ empty_lane) × ((next e).state.on ≡ None)
 
 -- ---- a load that is Done
 
@@ -149,7 +150,7 @@ ReportsWithin = (e : ReceiverEnd) (x : ℕ) → Within (agreed e.state.settings)
 -- held.
 pub record TakesIn (x : ℕ) (e f : ReceiverEnd) : Type 0 where
   pub turn : f.state.turn ≡ e.state.turn
-  pub held : f.state.held ≡ (if not (is_plain e.state.mode) && not e.state.framed && eqb (from_line x) 0xFF then nothing_held else e.state.held)
+  pub held : f.state.held ≡ (if not (is_plain e.state.mode) && not e.state.framed && eqb (from_line x) 0xFF then None else e.state.held)
   pub other : area_of (not e.state.turn) f ≡ area_of (not e.state.turn) e
   pub count : e.state.decoded ≤ f.state.decoded
   pub decoded : take e.state.decoded (area_of e.state.turn f) ≡ take e.state.decoded (area_of e.state.turn e)
@@ -158,7 +159,7 @@ pub record TakesIn (x : ℕ) (e f : ReceiverEnd) : Type 0 where
 -- D1 is accepted: the held area becomes the work area, its n octets are the decoded ones, nothing is held; and nothing is written.
 pub record Resumes (n : ℕ) (e f : ReceiverEnd) : Type 0 where
   pub turn : f.state.turn ≡ not e.state.turn
-  pub held : f.state.held ≡ nothing_held
+  pub held : f.state.held ≡ None
   pub decoded : f.state.decoded ≡ n
   pub first : f.first ≡ e.first
   pub second : f.second ≡ e.second
@@ -176,9 +177,9 @@ HeldThen e h =
     ≡ out_of_frame r (not r.turn) (holds r.decoded (register (agreed r.settings).check (take r.decoded (area_of r.turn e))))))
 
 pub record NotHeldThen (r : Receiver) (h : Receive) : Type 0 where
-  pub fragment : Fragment
+  pub fragment : Held
   pub state : h.after.state ≡ out_of_frame r r.turn fragment
-  pub resumed : r.resumed ≡ true → fragment ≡ nothing_held
+  pub resumed : r.resumed ≡ true → fragment ≡ None
   pub other : r.resumed ≡ false → fragment ≡ r.held
   pub no_held : (n : ℕ) (replaced : Bool) → h.report ≡ held n replaced → ⊥
   pub no_quiet : h.report ≡ quiet → ⊥
@@ -215,5 +216,5 @@ pub record ReceivesSo : Type 0 where
   pub resumes : (e : ReceiverEnd) → ReceiverReady e → is_plain e.state.mode ≡ false → e.state.framed ≡ false → (agreed e.state.settings).pre ≡ true → (n k : ℕ) → e.state.held ≡ holds n k
       → register (agreed e.state.settings).check (take n (aside e)) ≡ k → Resumes n e (receive e 0xD1).after
   pub takes_in : (e : ReceiverEnd) → ReceiverReady e → (x : ℕ) → (x ≡ flag → ⊥)
-      → (is_plain e.state.mode ≡ false → e.state.framed ≡ false → from_line x ≡ 0xD1 → (agreed e.state.settings).pre ≡ true → e.state.held ≡ nothing_held)
+      → (is_plain e.state.mode ≡ false → e.state.framed ≡ false → from_line x ≡ 0xD1 → (agreed e.state.settings).pre ≡ true → e.state.held ≡ None)
       → TakesIn x e (receive e x).after

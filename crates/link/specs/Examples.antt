@@ -1,16 +1,14 @@
 -- Settings, codes, bounds and refusals, by example (document 01, "Code blocks", "Refusal table", and "Receiver" on what is held; document 02,
 -- slips 1, 4 and 11): one more table beside the marked cases, and three sentences that are general.
-use Rattle.std.specs.Prelude.{◌≡◌, Bool, true, false, ◌&&◌, ℕ, ◌+◌, ◌-◌, ◌*◌, ◌≤◌, ◌<◌, leb, length, replicate}
+use Rattle.std.specs.Prelude.{◌≡◌, Bool, true, false, ◌&&◌, ℕ, ◌+◌, ◌-◌, ◌*◌, ◌≤◌, ◌<◌, leb, length, replicate, Some, Ok, Err, None}
 use mathlib.Core.List.{List, [], ◌∷◌, ◌++◌, Memᴰ}
 use Rattle.std.specs.Prelude.{if◌then◌else◌}
-use Rattle.cobs.specs.CodeBlocks.{flag, meaning}
-use Rattle.cobs.specs.declared.Meaning.{Meaning}
-use Rattle.cobs.specs.declared.Meaning.TheVariants.{InTable, NotAgreed, NoCode}
-use Rattle.link.specs.Agreed.{Settings, agreed, valid_width, valid_limit, valid, least_packet, least_frame, largest_frame, most_decoded}
+use Rattle.cobs.specs.CodeBlocks.{flag, meaning, Meaning, in_row}
+use Rattle.link.specs.Agreed.{Settings, OpenError, limit_refused, width_refused, agreed, valid_width, valid_limit, valid, least_packet, least_frame, largest_frame, most_decoded}
 use Rattle.link.specs.Answers.{Answer, done, octet, quiet, refused}
-use Rattle.link.specs.Sender.{Lane, low, high, sending, Sender, SenderEnd, lane_state, opened_sender, open_sender, with_lane, with_block, with_line, with_marks, out_answer, in_bounds, load, next}
-use Rattle.link.specs.Receiver.{Fragment, nothing_held, holds, LastBlock, no_block, block_d0, other_block, kept_off, reading_off, Receiver, ReceiverEnd, opened_receiver, open_receiver, fresh, with_held, with_decoded, with_due, in_frame, receive}
-use Rattle.link.specs.Sender as sender
+use Rattle.link.specs.Sender.{Lane, low, high, Sender, SenderEnd, lane_state, opened_sender, open_sender, with_lane, with_block, with_line, with_marks, out_answer, in_bounds, load, next}
+use Rattle.link.specs.Receiver.{holds, LastBlock, no_block, block_d0, other_block, kept_off, Receiver, ReceiverEnd, opened_receiver, open_receiver, fresh, with_held, with_decoded, with_due, in_frame, receive, Held}
+use Rattle.cobs.specs.declared.CodeError.TheVariants.{NotAgreed, NoCode}
 use Rattle.link.specs.Receiver as receiver
 use Rattle.link.specs.Runs.{SenderCall, loading, next_octet, run, sender_answers, written, written_octets, received}
 use Rattle.link.specs.Progress.{calls_to_empty}
@@ -62,20 +60,20 @@ PacketLengths =
 
 -- plain reading is off: an opened receiver, one out of a frame with this turn and held, a fresh one with areas
 abbrev opened_off : Settings → Receiver
-opened_off settings = opened_receiver settings reading_off
+opened_off settings = opened_receiver settings None
 
-abbrev out_off : Settings → Bool → Fragment → Receiver
+abbrev out_off : Settings → Bool → Held → Receiver
 out_off settings = fresh settings kept_off 0
 
 abbrev fresh_off : Settings → List ℕ → List ℕ → ReceiverEnd
-fresh_off settings = fresh_receiver settings reading_off
+fresh_off settings = fresh_receiver settings None
 
 -- bits: whether these settings allow D3-FE, and preemption
 -- case: a case in the words of the marked ones
 -- reads: with ZXE or without, what the table says of this code
 -- puts: with these settings these calls of a fresh sender put so on the line
 -- opens: either end is opened with these settings
--- not_opened: the opening of either end with these settings is refused so
+-- not_opened: the opening of either end with these settings is refused so, limit_refused (23) or width_refused (3)
 -- loads, asks, hears: what a call of load, next octet or the receiver answers
 -- calls: what calls of a fresh sender answer, with settings 03
 -- empties: with settings 03, behind these calls of a fresh sender so many of next octet are told to empty both lanes, and no fewer do: the
@@ -91,7 +89,7 @@ pub data Example : Type 0 where
   reads : Bool → ℕ → Meaning → Example
   puts : Settings → List SenderCall → List ℕ → Example
   opens : Settings → Example
-  not_opened : Settings → ℕ → Example
+  not_opened : Settings → OpenError → Example
   loads : Lane → List ℕ → Sender → List ℕ → Answer → Example
   asks : SenderEnd → Answer → Example
   hears : ReceiverEnd → ℕ → Answer → Example
@@ -99,7 +97,7 @@ pub data Example : Type 0 where
   empties : List SenderCall → ℕ → Example
   in_bounds_s : Sender → Bool → Example
   in_bounds_r : Receiver → Bool → Example
-  leaves : ReceiverEnd → List ℕ → Fragment → Example
+  leaves : ReceiverEnd → List ℕ → Held → Example
   becomes : ReceiverEnd → List ℕ → Receiver → Example
   reports : ReceiverEnd → List ℕ → Answer → Example
   decodes : Receiver → ℕ → ℕ → ℕ → Example
@@ -110,8 +108,8 @@ Tells (case c) = marked.Says c
 Tells (reads zxe c m) = meaning zxe c ≡ m
 Tells (puts settings cs line) = written_octets (written (fresh_sender settings) cs) ≡ line
 Tells (opens settings) =
-    (open_sender settings ≡ sender.opened (opened_sender settings)) × (open_receiver settings reading_off ≡ receiver.opened (opened_off settings))
-Tells (not_opened settings n) = (open_sender settings ≡ sender.refused_opening n) × (open_receiver settings reading_off ≡ receiver.refused_opening n)
+    (open_sender settings ≡ Ok (opened_sender settings)) × (open_receiver settings None ≡ Ok (opened_off settings))
+Tells (not_opened settings e) = (open_sender settings ≡ Err e) × (open_receiver settings None ≡ Err e)
 Tells (loads l p s area a) = (load l p s area).answer ≡ a
 Tells (asks e a) = out_answer (next e).out ≡ a
 Tells (hears e x a) = (receive e x).report ≡ a
@@ -159,7 +157,7 @@ area n = replicate n 0
 abbrev left_over : SenderEnd
 left_over =
     record {
-      state = with_line (sending low) (with_block 208 0 (with_lane low (record { length = 300; position = 0 }) (opened_sender (bits16 0x03))));
+      state = with_line (Some low) (with_block 208 0 (with_lane low (record { length = 300; position = 0 }) (opened_sender (bits16 0x03))));
       low = area 2050;
       high = area 2050;
     }
@@ -175,11 +173,11 @@ holds_unasked = record { state = out_off (bits16 0x01) false (holds 3 0x3933); f
 -- a sender with the low lane, or the high one, on the line: its length and position, data left and zeros due
 abbrev low_on : ℕ → ℕ → ℕ → ℕ → Sender
 low_on length position left zeros =
-    with_line (sending low) (with_block left zeros (with_lane low (record { length = length; position = position }) (opened_sender (bits16 0x03))))
+    with_line (Some low) (with_block left zeros (with_lane low (record { length = length; position = position }) (opened_sender (bits16 0x03))))
 
 abbrev high_on : ℕ → ℕ → ℕ → ℕ → Sender
 high_on length position left zeros =
-    with_line (sending high) (with_block left zeros (with_lane high (record { length = length; position = position }) (opened_sender (bits16 0x03))))
+    with_line (Some high) (with_block left zeros (with_lane high (record { length = length; position = position }) (opened_sender (bits16 0x03))))
 
 -- a sender with a lane off the line
 abbrev lane_off : Lane → ℕ → ℕ → Sender
@@ -211,7 +209,7 @@ abbrev decoding : Settings → ℕ → ℕ → Receiver
 decoding settings n left = with_due left 0 (with_decoded n (in_frame other_block false 0 (opened_off settings)))
 
 -- a receiver that holds a fragment in its first area, where 31 stands and this octet
-abbrev held31 : Settings → Fragment → ℕ → ReceiverEnd
+abbrev held31 : Settings → Held → ℕ → ReceiverEnd
 held31 settings fragment x =
     record { state = out_off settings true fragment; first = 0x31 ∷ x ∷ receiver_area settings; second = receiver_area settings }
 
@@ -220,26 +218,26 @@ held31 settings fragment x =
 -- the codes
 abbrev pub code_examples : List Example
 code_examples =
-    reads true 0x00 NoCode
-    ∷ reads true 0x01 (InTable 0 1)
-    ∷ reads true 0xCF (InTable 206 1)
-    ∷ reads true 0xD0 (InTable 207 0)
-    ∷ reads true 0xD1 NoCode
-    ∷ reads true 0xD2 NoCode
-    ∷ reads true 0xD3 (InTable 0 3)
-    ∷ reads true 0xDF (InTable 0 15)
-    ∷ reads true 0xE0 (InTable 0 2)
-    ∷ reads true 0xFE (InTable 30 2)
-    ∷ reads true 0xFF NoCode
-    ∷ reads false 0xCF (InTable 206 1)
-    ∷ reads false 0xD0 (InTable 207 0)
-    ∷ reads false 0xD1 NoCode
-    ∷ reads false 0xD2 NoCode
-    ∷ reads false 0xD3 NotAgreed
-    ∷ reads false 0xDF NotAgreed
-    ∷ reads false 0xE0 NotAgreed
-    ∷ reads false 0xFE NotAgreed
-    ∷ reads false 0xFF NoCode
+    reads true 0x00 (Err NoCode)
+    ∷ reads true 0x01 (in_row 0 1)
+    ∷ reads true 0xCF (in_row 206 1)
+    ∷ reads true 0xD0 (in_row 207 0)
+    ∷ reads true 0xD1 (Err NoCode)
+    ∷ reads true 0xD2 (Err NoCode)
+    ∷ reads true 0xD3 (in_row 0 3)
+    ∷ reads true 0xDF (in_row 0 15)
+    ∷ reads true 0xE0 (in_row 0 2)
+    ∷ reads true 0xFE (in_row 30 2)
+    ∷ reads true 0xFF (Err NoCode)
+    ∷ reads false 0xCF (in_row 206 1)
+    ∷ reads false 0xD0 (in_row 207 0)
+    ∷ reads false 0xD1 (Err NoCode)
+    ∷ reads false 0xD2 (Err NoCode)
+    ∷ reads false 0xD3 (Err NotAgreed)
+    ∷ reads false 0xDF (Err NotAgreed)
+    ∷ reads false 0xE0 (Err NotAgreed)
+    ∷ reads false 0xFE (Err NotAgreed)
+    ∷ reads false 0xFF (Err NoCode)
     -- the sender's choice with ZXE: runs of three zeros to fifteen, and pairs of zeros behind no more than thirty octets
     ∷ case (chosen (0x00 ∷ 0x31 ∷ []) 0x01)
     ∷ case (chosen (0x00 ∷ 0x00 ∷ 0x31 ∷ []) 0xE0)
@@ -467,9 +465,9 @@ held_examples =
     (reported (bits16 0x03) (broken ++ (whole ++ (0x7E ∷ (resuming ++ (0x7E ∷ [])))))
     (held_of 3 false ∷ packet_of true digits ∷ packet_of false digits ∷ []))
     -- a D1 that is refused makes its frame a resumed one all the same: refused 6 it leaves nothing held, and so refused 8
-    ∷ leaves holds_unasked (0xD1 ∷ 0x7E ∷ []) nothing_held
+    ∷ leaves holds_unasked (0xD1 ∷ 0x7E ∷ []) None
     ∷ leaves holds_unasked (0xD2 ∷ 0x7E ∷ []) (holds 3 0x3933)
-    ∷ leaves (fresh_end (bits16 0x03)) (0xD1 ∷ 0x01 ∷ 0x7E ∷ []) nothing_held
+    ∷ leaves (fresh_end (bits16 0x03)) (0xD1 ∷ 0x01 ∷ 0x7E ∷ []) None
     -- Held in a resumed frame is not said to replace what it went on from, but what comes after it is
     ∷ case (reported (bits16 0x03) (broken ++ (0xD1 ∷ 0x05 ∷ 0x34 ∷ 0x7E ∷ 0x05 ∷ 0x31 ∷ 0x7E ∷ [])) (held_of 3 false ∷ held_of 4 false ∷ held_of 1 true ∷ []))
     -- a fragment of no octets is held, replaced, and gone on from
@@ -481,8 +479,8 @@ held_examples =
     (reported (bits16 0x03) (0x05 ∷ 0x31 ∷ 0x7E ∷ 0xFF ∷ 0x03 ∷ 0x7E ∷ 0xD1 ∷ 0x01 ∷ 0x7E ∷ [])
     (held_of 1 false ∷ refused_by 5 ∷ refused_by 8 ∷ []))
     ∷ case (reported (bits16 0x03) (0x05 ∷ 0x31 ∷ 0x7E ∷ 0xFF ∷ 0x7E ∷ 0x05 ∷ 0x7E ∷ []) (held_of 1 false ∷ refused_by 5 ∷ held_of 0 false ∷ []))
-    ∷ leaves (fresh_end (bits16 0x03)) (0x05 ∷ 0x31 ∷ 0x7E ∷ 0xFF ∷ []) nothing_held
-    ∷ leaves holds_unasked (0xFF ∷ []) nothing_held
+    ∷ leaves (fresh_end (bits16 0x03)) (0x05 ∷ 0x31 ∷ 0x7E ∷ 0xFF ∷ []) None
+    ∷ leaves holds_unasked (0xFF ∷ []) None
     -- another frame that is refused does not
     ∷ case (reported (bits16 0x03) (0x05 ∷ 0x31 ∷ 0x7E ∷ 0xD2 ∷ 0x7E ∷ 0xD1 ∷ 0x01 ∷ 0x7E ∷ []) (held_of 1 false ∷ refused_by 7 ∷ refused_by 13 ∷ []))
     -- FF behind a frame's first octet is no restart: behind D1, as a code, as data
@@ -505,9 +503,9 @@ changed_examples =
     -- frames that are delivered or refused, and empty ones, leave it
     ∷ leaves (fresh_end (bits16 0x03)) ((0x05 ∷ 0x31 ∷ 0x32 ∷ 0x7E ∷ []) ++ (whole ++ (0x7E ∷ 0x7E ∷ 0xD2 ∷ 0x7E ∷ []))) (holds 2 0x4D53)
     -- a held octet is changed: 21, and from the D1 on nothing is held; the areas do not change turns
-    ∷ becomes (held31 (bits16 0x03) (holds 2 0x4D53) 0x33) (0xD1 ∷ []) (in_frame no_block true 21 (out_off (bits16 0x03) true nothing_held))
+    ∷ becomes (held31 (bits16 0x03) (holds 2 0x4D53) 0x33) (0xD1 ∷ []) (in_frame no_block true 21 (out_off (bits16 0x03) true None))
     ∷ reports (held31 (bits16 0x03) (holds 2 0x4D53) 0x33) (0xD1 ∷ 0x03 ∷ 0x37 ∷ 0x38 ∷ []) (refused 21)
-    ∷ becomes (held31 (bits16 0x03) (holds 2 0x4D53) 0x33) (0xD1 ∷ 0x03 ∷ 0x37 ∷ 0x38 ∷ 0x7E ∷ []) (out_off (bits16 0x03) true nothing_held)
+    ∷ becomes (held31 (bits16 0x03) (holds 2 0x4D53) 0x33) (0xD1 ∷ 0x03 ∷ 0x37 ∷ 0x38 ∷ 0x7E ∷ []) (out_off (bits16 0x03) true None)
     ∷ reports (held31 (bits32 0x03) (holds 2 0xB0ACBB32) 0x33) (0xD1 ∷ []) (refused 21)
     -- one behind the held octets is: no matter
     ∷ reports (held31 (bits16 0x03) (holds 1 0x2F8D) 0x33) (0xD1 ∷ 0x01 ∷ []) (refused 13)
@@ -555,8 +553,8 @@ width_examples =
     ∷ in_bounds_r (decoding (bits32 0x03) 2053 0) true
     ∷ in_bounds_r (decoding (bits32 0x03) 2054 0) false
     -- 3 of another width goes before all else
-    ∷ not_opened bits24 3
-    ∷ not_opened (agreeing 0 2048) 3
+    ∷ not_opened bits24 width_refused
+    ∷ not_opened (agreeing 0 2048) width_refused
     ∷ opens (bits16 0x03)
     ∷ opens (bits32 0x03)
     ∷ loads low (0x31 ∷ []) (opened_sender bits24) [] (refused 3)
@@ -568,12 +566,12 @@ width_examples =
 abbrev pub limit_examples : List Example
 limit_examples =
     -- 23 of the limit goes before 3 of the width
-    not_opened (agreeing 24 1) 23
-    ∷ not_opened (agreeing 24 16385) 23
-    ∷ not_opened (agreeing 16 0) 23
-    ∷ not_opened (agreeing 16 1) 23
-    ∷ not_opened (agreeing 32 16385) 23
-    ∷ not_opened (agreeing 24 2) 3
+    not_opened (agreeing 24 1) limit_refused
+    ∷ not_opened (agreeing 24 16385) limit_refused
+    ∷ not_opened (agreeing 16 0) limit_refused
+    ∷ not_opened (agreeing 16 1) limit_refused
+    ∷ not_opened (agreeing 32 16385) limit_refused
+    ∷ not_opened (agreeing 24 2) width_refused
     ∷ opens (agreeing 16 2)
     ∷ opens (agreeing 32 16384)
     -- 3 of the limit goes before 2, and before all else

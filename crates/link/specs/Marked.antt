@@ -1,12 +1,12 @@
 -- The marked cases (document 01, "Marked frames and false friends"): one table, and what each case says of the steps.
-use Rattle.std.specs.Prelude.{◌≡◌, Bool, true, false, ℕ, ◌+◌, length, replicate}
+use Rattle.std.specs.Prelude.{◌≡◌, Bool, true, false, ℕ, ◌+◌, length, replicate, None}
 use mathlib.Core.List.{List, [], ◌∷◌, ◌++◌, map, Memᴰ}
 use Rattle.std.proofs.Math.Option.{none, some}
 use Rattle.cobs.specs.CodeBlocks.{flag, choice}
 use Rattle.link.specs.Agreed.{Settings, agreed, largest_frame, most_decoded}
 use Rattle.link.specs.Answers.{Answer, octet, packet, held, refused}
 use Rattle.link.specs.Sender.{Lane, low, high, out_answer, next}
-use Rattle.link.specs.Receiver.{ReceiverEnd, Receive, reading_off, receive}
+use Rattle.link.specs.Receiver.{ReceiverEnd, Receive, receive}
 use Rattle.link.specs.Runs.{SenderCall, loading, next_octet, Station, fresh_station, run, after_next, Written, written, written_octets, at_true, at_false, receives, received, not_quiet, under_way, left_aside}
 use Rattle.link.specs.Demands.{fresh_receiver, ReportAndPacket, report_and_packet}
 
@@ -36,7 +36,7 @@ abbrev pub fresh_sender : Settings → Station
 fresh_sender settings = fresh_station settings (sender_area settings) (sender_area settings)
 
 abbrev pub fresh_end : Settings → ReceiverEnd
-fresh_end settings = fresh_receiver settings reading_off (receiver_area settings) (receiver_area settings)
+fresh_end settings = fresh_receiver settings None (receiver_area settings) (receiver_area settings)
 
 -- a frame is refused 10, or is not
 abbrev pub IsRefusedTen : Bool → Answer → Type 0

@@ -1,15 +1,14 @@
 -- Plain PPP, by example (document 02, slip 5): one more table of computed cases.
-use Rattle.std.specs.Prelude.{Bool, true, false, ◌≡◌, ℕ, zero, suc, replicate}
+use Rattle.std.specs.Prelude.{Bool, true, false, ◌≡◌, ℕ, zero, suc, replicate, Some, Result, Ok, Err}
 use mathlib.Core.List.{List, [], ◌∷◌, map, Memᴰ}
 use Rattle.cobs.specs.CodeBlocks.{flag}
-use Rattle.plain.specs.declared.Sent.{Sent}
-use Rattle.plain.specs.declared.Sent.TheVariants.{Written as written, Refused as refused_send}
 use Rattle.plain.specs.Maps.{marking, with_framing}
 use Rattle.plain.specs.ReadBack.{kept}
 use Rattle.link.specs.Agreed.{Settings, agreed}
 use Rattle.link.specs.Answers.{Answer, refused}
-use Rattle.link.specs.Receiver.{holds, no_block, block_d0, other_block, Mode, kept_off, cobs, plain, escape_open, reading_on, Opening, opened, refused_opening, Receiver, opened_receiver, in_bounds, with_held, with_decoded, with_due, with_mode, in_frame, receive}
-use Rattle.link.specs.PlainSender.{PlainSender, opened_plain_sender, open_pair, plain_line, plain_send}
+use Rattle.link.specs.Receiver.{holds, no_block, block_d0, other_block, Mode, kept_off, cobs, plain, escape_open, Receiver, opened_receiver, in_bounds, with_held, with_decoded, with_due, with_mode, in_frame, receive}
+use Rattle.link.specs.declared.plain_sender.PairError.TheVariants as pair
+use Rattle.link.specs.PlainSender.{PairError, SendError, wrong_length, no_room, out_of_bounds, PlainSender, opened_plain_sender, open_pair, plain_line, plain_send}
 use Rattle.link.specs.Runs.{receives, received, not_quiet}
 use Rattle.link.specs.Demands.{fresh_receiver, frame_began_ff, ReportAndPacket, report_and_packet}
 use Rattle.link.specs.Marked.{bits16, receiver_area, packet_of, held_of, refused_by}
@@ -30,10 +29,10 @@ pub data PlainCase : Type 0 where
   in_bounds_r : Receiver → Bool → PlainCase
   ends : Receiver → Mode → Answer → PlainCase
   puts : List ℕ → List ℕ → List ℕ → PlainCase
-  sends : List ℕ → ℕ → Sent → PlainCase
-  pairs : Settings → ℕ → List ℕ → Opening → PlainCase
+  sends : List ℕ → ℕ → Result ℕ SendError → PlainCase
+  pairs : Settings → ℕ → List ℕ → Result Receiver PairError → PlainCase
   becomes : Settings → List ℕ → Receiver → PlainCase
-  sends_by : ℕ → ℕ → List ℕ → List ℕ → ℕ → Sent → PlainCase
+  sends_by : ℕ → ℕ → List ℕ → List ℕ → ℕ → Result ℕ SendError → PlainCase
   began : List ℕ → Bool → PlainCase
   keeps : ℕ → List ℕ → List ℕ → PlainCase
 
@@ -55,20 +54,20 @@ plain_sender xs = opened_plain_sender (bits16 0x00) (marks_of xs)
 
 abbrev pub Shows : PlainCase → Type 0
 Shows (hears settings receiving line ts) =
-    map report_and_packet (not_quiet (receives (fresh_receiver settings (reading_on receiving) (receiver_area settings) (receiver_area settings)) line)) ≡ ts
+    map report_and_packet (not_quiet (receives (fresh_receiver settings (Some receiving) (receiver_area settings) (receiver_area settings)) line)) ≡ ts
 Shows (in_bounds_r r ok) = in_bounds (agreed r.settings) r ≡ ok
 Shows (ends r mode a) =
     (receive (record { state = with_mode mode r; first = receiver_area r.settings; second = receiver_area r.settings }) flag).report ≡ a
 Shows (puts xs p line) = plain_line (plain_sender xs) p ≡ line
 Shows (sends p n a) = (plain_send (plain_sender []) p (replicate n 0)).answer ≡ a
-Shows (becomes settings line r) = (received (fresh_receiver settings (reading_on 0) (receiver_area settings) (receiver_area settings)) line).state ≡ r
+Shows (becomes settings line r) = (received (fresh_receiver settings (Some 0) (receiver_area settings) (receiver_area settings)) line).state ≡ r
 Shows (sends_by width limit marks p n a) = (plain_send (record { width = width; limit = limit; marks = marks }) p (replicate n 0)).answer ≡ a
 Shows (began noise b) = frame_began_ff true noise ≡ b
 Shows (keeps receiving xs ys) = kept receiving xs ≡ ys
 Shows (pairs settings receiving xs o) = (open_pair settings receiving (marks_of xs)).receiver ≡ o
 
 abbrev opened_on : ℕ → Receiver
-opened_on receiving = opened_receiver (bits16 0x03) (reading_on receiving)
+opened_on receiving = opened_receiver (bits16 0x03) (Some receiving)
 
 abbrev pub cases : List PlainCase
 cases =
@@ -137,7 +136,7 @@ cases =
     ∷ ends (in_frame no_block false 0 (opened_on 0)) plain (refused 13)
     ∷ ends (in_frame no_block true 0 (opened_on 0)) plain (refused 13)
     -- 10 within an escape ends it
-    ∷ becomes (agreeing 16 2) (0xFF ∷ 0x41 ∷ 0x41 ∷ 0x41 ∷ 0x7D ∷ 0x41 ∷ []) (with_mode plain (in_frame no_block false 10 (with_decoded 4 (opened_receiver (agreeing 16 2) (reading_on 0)))))
+    ∷ becomes (agreeing 16 2) (0xFF ∷ 0x41 ∷ 0x41 ∷ 0x41 ∷ 0x7D ∷ 0x41 ∷ []) (with_mode plain (in_frame no_block false 10 (with_decoded 4 (opened_receiver (agreeing 16 2) (Some 0)))))
     -- handed in with one octet more than the largest frame, at the flag: 10; and with an escape open, and a refusal remembered
     ∷ ends (in_frame no_block false 0 (with_decoded 2051 (opened_on 0))) plain (refused 10)
     ∷ ends (in_frame no_block false 0 (with_decoded 2051 (opened_on 0))) escape_open (refused 10)
@@ -149,30 +148,30 @@ cases =
     ∷ puts (0x5D ∷ []) (0x5D ∷ 0x7D ∷ 0x7E ∷ 0x5E ∷ []) (0x7D ∷ 0x7D ∷ 0x7D ∷ 0x5D ∷ 0x7D ∷ 0x5E ∷ 0x5E ∷ 0xCF ∷ 0x0C ∷ 0x7E ∷ [])
     ∷ puts (0xFF ∷ 0x91 ∷ []) (0xFF ∷ 0x91 ∷ []) (0x7D ∷ 0xDF ∷ 0x7D ∷ 0xB1 ∷ 0x87 ∷ 0x75 ∷ 0x7E ∷ [])
     -- 3, 2, 3 and 1, by its own width, limit and map
-    ∷ sends_by 24 2048 (framing []) (0x41 ∷ 0x42 ∷ []) 0 (refused_send 3)
-    ∷ sends_by 16 1 (framing []) (0x41 ∷ 0x42 ∷ []) 0 (refused_send 3)
-    ∷ sends_by 16 2 (framing []) (0x41 ∷ 0x42 ∷ 0x43 ∷ []) 6 (refused_send 1)
-    ∷ sends_by 16 2 (marks_of (0x7D ∷ [])) (0x41 ∷ 0x42 ∷ []) 4 (refused_send 2)
-    ∷ sends_by 16 2 (marks_of (0x7D ∷ [])) (0x41 ∷ 0x42 ∷ []) 5 (refused_send 3)
-    ∷ sends_by 16 2 (framing (0x3F ∷ [])) (0x41 ∷ []) 9 (refused_send 3)
-    ∷ sends_by 32 2 (framing []) (0x41 ∷ 0x42 ∷ []) 7 (written 7)
+    ∷ sends_by 24 2048 (framing []) (0x41 ∷ 0x42 ∷ []) 0 (Err out_of_bounds)
+    ∷ sends_by 16 1 (framing []) (0x41 ∷ 0x42 ∷ []) 0 (Err out_of_bounds)
+    ∷ sends_by 16 2 (framing []) (0x41 ∷ 0x42 ∷ 0x43 ∷ []) 6 (Err wrong_length)
+    ∷ sends_by 16 2 (marks_of (0x7D ∷ [])) (0x41 ∷ 0x42 ∷ []) 4 (Err no_room)
+    ∷ sends_by 16 2 (marks_of (0x7D ∷ [])) (0x41 ∷ 0x42 ∷ []) 5 (Err out_of_bounds)
+    ∷ sends_by 16 2 (framing (0x3F ∷ [])) (0x41 ∷ []) 9 (Err out_of_bounds)
+    ∷ sends_by 32 2 (framing []) (0x41 ∷ 0x42 ∷ []) 7 (Ok 7)
     -- 2 and 1: a packet of one octet in areas of 3 and 4, one of two in areas of 4 and 5
-    ∷ sends (0x41 ∷ []) 3 (refused_send 2)
-    ∷ sends (0x41 ∷ []) 4 (refused_send 1)
-    ∷ sends (0x41 ∷ 0x42 ∷ []) 4 (refused_send 2)
-    ∷ sends (0x41 ∷ 0x42 ∷ []) 5 (written 5)
+    ∷ sends (0x41 ∷ []) 3 (Err no_room)
+    ∷ sends (0x41 ∷ []) 4 (Err wrong_length)
+    ∷ sends (0x41 ∷ 0x42 ∷ []) 4 (Err no_room)
+    ∷ sends (0x41 ∷ 0x42 ∷ []) 5 (Ok 5)
     -- the pair: 23 before 3, 3 before 19
-    ∷ pairs (agreeing 24 1) 0 (0x20 ∷ []) (refused_opening 23)
-    ∷ pairs (agreeing 24 2) 0 (0x20 ∷ []) (refused_opening 3)
+    ∷ pairs (agreeing 24 1) 0 (0x20 ∷ []) (Err pair.Limit)
+    ∷ pairs (agreeing 24 2) 0 (0x20 ∷ []) (Err pair.Width)
     -- 19: a mark of the receiving map is lacking; 5E; 20 to 3F
-    ∷ pairs (bits16 0x03) 1 ([]) (refused_opening 19)
-    ∷ pairs (bits16 0x03) 0x80000000 (up_to 0x1F) (refused_opening 19)
-    ∷ pairs (bits16 0x03) 0 (0x5E ∷ []) (refused_opening 19)
-    ∷ pairs (bits16 0x03) 0 (0x20 ∷ []) (refused_opening 19)
-    ∷ pairs (bits16 0x03) 0 (0x3F ∷ []) (refused_opening 19)
+    ∷ pairs (bits16 0x03) 1 ([]) (Err pair.Maps)
+    ∷ pairs (bits16 0x03) 0x80000000 (up_to 0x1F) (Err pair.Maps)
+    ∷ pairs (bits16 0x03) 0 (0x5E ∷ []) (Err pair.Maps)
+    ∷ pairs (bits16 0x03) 0 (0x20 ∷ []) (Err pair.Maps)
+    ∷ pairs (bits16 0x03) 0 (0x3F ∷ []) (Err pair.Maps)
     -- others may be marked
-    ∷ pairs (bits16 0x03) 0x80000000 (up_to 0x20) (opened (opened_receiver (bits16 0x03) (reading_on 0x80000000)))
-    ∷ pairs (bits16 0x03) 0 (0x1F ∷ 0x40 ∷ 0x5D ∷ 0x5F ∷ 0xFF ∷ []) (opened (opened_receiver (bits16 0x03) (reading_on 0)))
+    ∷ pairs (bits16 0x03) 0x80000000 (up_to 0x20) (Ok (opened_receiver (bits16 0x03) (Some 0x80000000)))
+    ∷ pairs (bits16 0x03) 0 (0x1F ∷ 0x40 ∷ 0x5D ∷ 0x5F ∷ 0xFF ∷ []) (Ok (opened_receiver (bits16 0x03) (Some 0)))
     -- frames that began FF: only where a frame begins
     ∷ began (0x00 ∷ 0xFF ∷ 0x7E ∷ 0x05 ∷ 0xFF ∷ []) false
     ∷ began (0x7E ∷ 0xFF ∷ []) true

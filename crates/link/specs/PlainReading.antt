@@ -1,18 +1,18 @@
 -- Plain PPP between the two ends (docs/DEMANDS.md; document 02, slip 5). Each is proved in proofs/: PlainFrames.antt, PlainPair.antt.
-use Rattle.std.specs.Prelude.{Bool, true, false, ◌⊎◌, ◌≡◌, ℕ, ◌-◌, ◌≤◌, ◌<◌, ltb, length, take, replicate}
+use Rattle.std.specs.Prelude.{Bool, true, false, ◌⊎◌, ◌≡◌, ℕ, ◌-◌, ◌≤◌, ◌<◌, ltb, length, take, replicate, Some, Ok, Err}
 use mathlib.Core.List.{List, [], ◌∷◌, ◌++◌, map, flat_map, Memᴰ}
 use Rattle.std.proofs.Math.Option.{none, some}
 use Rattle.std.specs.Prelude.{if◌then◌else◌}
 use Rattle.fcs.specs.CheckSequence.{good}
 use Rattle.cobs.specs.CodeBlocks.{flag}
-use Rattle.plain.specs.declared.Sent.TheVariants.{Written as written, Refused as refused_send}
 use Rattle.plain.specs.Maps.{marked, with_framing, refused_pair, marks_ok}
 use Rattle.plain.specs.ReadBack.{Unstuffed, unstuffed, kept}
-use Rattle.link.specs.Agreed.{Settings, Agreed, agreed, least_packet, valid_width, valid_limit, valid, least_frame, largest_frame}
-use Rattle.link.specs.Answers.{quiet, packet, refused}
-use Rattle.link.specs.Receiver.{cobs, plain, reading_on, opened, refused_opening, ReceiverEnd, opened_receiver, is_plain, write, receive}
+use Rattle.link.specs.Agreed.{Settings, OpenError, Agreed, agreed, least_packet, valid_width, valid_limit, valid, least_frame, largest_frame}
+use Rattle.link.specs.Answers.{quiet, packet, refused, open_refusal}
+use Rattle.link.specs.Receiver.{cobs, plain, ReceiverEnd, opened_receiver, is_plain, write, receive}
 use Rattle.link.specs.ReceiverParts.{ReceiverReady}
-use Rattle.link.specs.PlainSender.{PlainSender, plain_agreed, plain_line, plain_send, open_pair}
+use Rattle.link.specs.declared.plain_sender.PairError.TheVariants as pair
+use Rattle.link.specs.PlainSender.{pair_error, pair_refusal, SendError, wrong_length, no_room, out_of_bounds, send_refusal, PlainSender, plain_agreed, plain_line, plain_send, open_pair}
 use Rattle.link.specs.Runs.{receives, received, not_quiet}
 use Rattle.link.specs.Demands.{fresh_receiver, ReportAndPacket, report_and_packet, OutOfCobsFrame}
 
@@ -23,6 +23,7 @@ pub record AllowedLength (g : Agreed) (p : List ℕ) : Type 0 where
   pub least : least_packet ≤ length p
   pub most : length p ≤ g.limit
 
+--   numbers: its refusals are 1, 2 and 3
 --   settings: 3 before all else, of a width or a limit that is not valid
 --   exactly: then 2, where frame and flag do not fit, whatever the packet and the map
 --   map: then 3, of a map that is out of bounds, whatever the packet
@@ -30,30 +31,33 @@ pub record AllowedLength (g : Agreed) (p : List ℕ) : Type 0 where
 --   writes: else they stand at the area's start, the rest stays, and their length is answered
 --   refused: a refused call writes nothing
 pub record PlainSends : Type 0 where
-  pub settings : (s : PlainSender) (p area : List ℕ) → valid (plain_agreed s) ≡ false → (plain_send s p area).answer ≡ refused_send 3
+  pub numbers : (send_refusal wrong_length ≡ 1) × (send_refusal no_room ≡ 2) × (send_refusal out_of_bounds ≡ 3)
+  pub settings : (s : PlainSender) (p area : List ℕ) → valid (plain_agreed s) ≡ false → (plain_send s p area).answer ≡ Err out_of_bounds
   pub exactly : (s : PlainSender) (p area : List ℕ) → valid (plain_agreed s) ≡ true → length area < length (plain_line s p)
-      → (plain_send s p area).answer ≡ refused_send 2
+      → (plain_send s p area).answer ≡ Err no_room
   pub map : (s : PlainSender) (p area : List ℕ) → valid (plain_agreed s) ≡ true → length (plain_line s p) ≤ length area → marks_ok s.marks ≡ false
-      → (plain_send s p area).answer ≡ refused_send 3
+      → (plain_send s p area).answer ≡ Err out_of_bounds
   pub other : (s : PlainSender) (p area : List ℕ) → valid (plain_agreed s) ≡ true → length (plain_line s p) ≤ length area → marks_ok s.marks ≡ true
       → (length p < least_packet) ⊎ ((plain_agreed s).limit < length p)
-      → (plain_send s p area).answer ≡ refused_send 1
+      → (plain_send s p area).answer ≡ Err wrong_length
   pub writes : (s : PlainSender) (p area : List ℕ) → valid (plain_agreed s) ≡ true → length (plain_line s p) ≤ length area → marks_ok s.marks ≡ true
       → AllowedLength (plain_agreed s) p
-      → plain_send s p area ≡ record { answer = written (length (plain_line s p)); area = write area 0 (plain_line s p) }
-  pub refused : (s : PlainSender) (p area : List ℕ) (n : ℕ) → (plain_send s p area).answer ≡ refused_send n → (plain_send s p area).area ≡ area
+      → plain_send s p area ≡ record { answer = Ok (length (plain_line s p)); area = write area 0 (plain_line s p) }
+  pub refused : (s : PlainSender) (p area : List ℕ) (e : SendError) → (plain_send s p area).answer ≡ Err e → (plain_send s p area).area ≡ area
 
 -- ---- the pair
 
--- 23, 3 and 19, in this order; else the receiver is opened. The sender has the pair's width and limit, and its map, which is in bounds then.
+-- 23, 3 and 19, in this order, the first two as of any end; else the receiver is opened. The sender has the pair's width and limit, and its map, which is in bounds then.
 pub record PairOpens : Type 0 where
-  pub limit : (settings : Settings) (map : ℕ) (marks : List ℕ) → valid_limit (agreed settings) ≡ false → (open_pair settings map marks).receiver ≡ refused_opening 23
+  pub numbers : (pair_refusal pair.Limit ≡ 23) × (pair_refusal pair.Width ≡ 3) × (pair_refusal pair.Maps ≡ 19)
+  pub as_opening : (e : OpenError) → pair_refusal (pair_error e) ≡ open_refusal e
+  pub limit : (settings : Settings) (map : ℕ) (marks : List ℕ) → valid_limit (agreed settings) ≡ false → (open_pair settings map marks).receiver ≡ Err pair.Limit
   pub width : (settings : Settings) (map : ℕ) (marks : List ℕ) → valid_limit (agreed settings) ≡ true → valid_width (agreed settings) ≡ false
-      → (open_pair settings map marks).receiver ≡ refused_opening 3
+      → (open_pair settings map marks).receiver ≡ Err pair.Width
   pub maps : (settings : Settings) (map : ℕ) (marks : List ℕ) → valid (agreed settings) ≡ true → refused_pair map marks ≡ true
-      → (open_pair settings map marks).receiver ≡ refused_opening 19
+      → (open_pair settings map marks).receiver ≡ Err pair.Maps
   pub opens : (settings : Settings) (map : ℕ) (marks : List ℕ) → valid (agreed settings) ≡ true → refused_pair map marks ≡ false
-      → (open_pair settings map marks).receiver ≡ opened (opened_receiver settings (reading_on map))
+      → (open_pair settings map marks).receiver ≡ Ok (opened_receiver settings (Some map))
   pub pair_sender : (settings : Settings) (map : ℕ) (marks : List ℕ)
       → (open_pair settings map marks).sender ≡ record { width = settings.width; limit = settings.limit; marks = with_framing marks }
   pub sender : (settings : Settings) (map : ℕ) (marks : List ℕ) → length marks ≡ 32 → refused_pair map marks ≡ false
@@ -127,7 +131,7 @@ AllAllowedLengths g ps = (p : List ℕ) → Memᴰ p ps → AllowedLength g p
 -- A pair that is opened, with 32 octets of marks, and a receiver of the same settings and map, in bounds and with areas long enough
 pub record OfPair (given : Settings) (receiving : ℕ) (marks : List ℕ) (e : ReceiverEnd) : Type 0 where
   pub octets : length marks ≡ 32
-  pub opens : (open_pair given receiving marks).receiver ≡ opened (opened_receiver given (reading_on receiving))
+  pub opens : (open_pair given receiving marks).receiver ≡ Ok (opened_receiver given (Some receiving))
   pub ready : ReceiverReady e
   pub settings : e.state.settings ≡ given
   pub map : e.state.map ≡ receiving
@@ -140,9 +144,9 @@ pub record OfPair (given : Settings) (receiving : ℕ) (marks : List ℕ) (e : R
 pub record PlainFrames : Type 0 where
   pub frames : (settings : Settings) (receiving : ℕ) (marks : List ℕ) (e : ReceiverEnd) → OfPair settings receiving marks e → is_plain e.state.mode ≡ true
       → (ps : List (List ℕ)) → AllAllowedLengths (agreed settings) ps → ComeThrough (open_pair settings receiving marks).sender (receive e flag).after ps
-  pub opened : (settings : Settings) (receiving : ℕ) (marks first second : List ℕ) → OfPair settings receiving marks (fresh_receiver settings (reading_on receiving) first second)
+  pub opened : (settings : Settings) (receiving : ℕ) (marks first second : List ℕ) → OfPair settings receiving marks (fresh_receiver settings (Some receiving) first second)
       → (before : List ℕ)
-      → (let e = received (fresh_receiver settings (reading_on receiving) first second) before in
+      → (let e = received (fresh_receiver settings (Some receiving) first second) before in
       is_plain e.state.mode ≡ true
       → (ps : List (List ℕ)) → AllAllowedLengths (agreed settings) ps → ComeThrough (open_pair settings receiving marks).sender (receive e flag).after ps)
   pub begins : (settings : Settings) (receiving : ℕ) (marks : List ℕ) (e : ReceiverEnd) → OfPair settings receiving marks e → e.state.mode ≡ cobs → e.state.framed ≡ false

@@ -1,12 +1,12 @@
 -- What follows of the sender's calls by themselves (docs/DEMANDS.md): it is never idle with work to do, a frame goes out as its blocks, both
 -- lanes get empty in time, and urgent packets go first.
-use Rattle.std.specs.Prelude.{Bool, true, false, ◌&&◌, ◌||◌, ◌⊎◌, ◌≡◌, ℕ, ◌+◌, ◌/◌, ◌≤◌, ltb, eqb, length, take, drop, replicate}
+use Rattle.std.specs.Prelude.{Bool, true, false, ◌&&◌, ◌||◌, ◌⊎◌, ◌≡◌, ℕ, ◌+◌, ◌/◌, ◌≤◌, ltb, eqb, length, take, drop, replicate, Some, None}
 use mathlib.Core.List.{List, [], ◌∷◌, ◌++◌, map, Memᴰ}
 use Rattle.std.specs.Prelude.{if◌then◌else◌}
 use Rattle.cobs.specs.CodeBlocks.{frame, to_line, line_octets, blocks, uninterrupted}
 use Rattle.link.specs.Agreed.{Settings, agreed, least_packet, largest_frame, valid}
 use Rattle.link.specs.Answers.{done, idle}
-use Rattle.link.specs.Sender.{Lane, low, high, no_lane, sending, Sender, SenderEnd, Out, closes, breaks_off, sends, sends_nothing, refuses, out_answer, lane_state, lane_area, lane_d, loaded, load, next}
+use Rattle.link.specs.Sender.{Lane, low, high, Sender, SenderEnd, Out, closes, breaks_off, sends, sends_nothing, refuses, out_answer, lane_state, lane_area, lane_d, loaded, load, next}
 use Rattle.link.specs.SenderParts.{SenderReady}
 use Rattle.link.specs.Runs.{SenderCall, loading, next_octet, Station, fresh_station, after_load, after_next, run, loaded_into, Written, written, is_of, sent_by}
 
@@ -25,7 +25,7 @@ pub record IdleIfEmpty : Type 0 where
 
 -- The lane's frame is next, from its beginning: no lane is on the line, and where it is low's, high is empty and low not suspended.
 pub record BeginsNext (l : Lane) (s : Sender) : Type 0 where
-  pub free : s.on ≡ no_lane
+  pub free : s.on ≡ None
   pub start : (lane_state l s).position ≡ 0
   pub holds : loaded (lane_state l s) ≡ true
   pub high_empty : l ≡ low → s.high.length ≡ 0
@@ -62,7 +62,7 @@ still_to_send zxe d pos n z = map to_line (take n (drop pos d)) ++ line_octets (
 -- the D of a frame, so of these blocks `Shortest` holds as well.
 abbrev pub RestUninterrupted : Type 0
 RestUninterrupted =
-    (l : Lane) (w : Station) → SenderReady w.end → w.end.state.on ≡ sending l → w.end.state.cut ≡ false → (calls : List SenderCall)
+    (l : Lane) (w : Station) → SenderReady w.end → w.end.state.on ≡ Some l → w.end.state.cut ≡ false → (calls : List SenderCall)
     → (let s = w.end.state in
     let g = agreed s.settings in
     let q = lane_state l s in
@@ -116,8 +116,8 @@ OnlyHighUntilD1 b (e ∷ es) =
 --   whole: without PRE no packet is ever broken off
 --   until: from a break-off until D1 only octets of the high lane are written
 pub record UrgentFirst : Type 0 where
-  pub free : (e : SenderEnd) → SenderReady e → e.state.on ≡ no_lane → loaded e.state.high ≡ true → is_of high (next e).out ≡ true
-  pub at_once : (e : SenderEnd) → SenderReady e → (agreed e.state.settings).pre ≡ true → e.state.on ≡ sending low → e.state.cut ≡ false
+  pub free : (e : SenderEnd) → SenderReady e → e.state.on ≡ None → loaded e.state.high ≡ true → is_of high (next e).out ≡ true
+  pub at_once : (e : SenderEnd) → SenderReady e → (agreed e.state.settings).pre ≡ true → e.state.on ≡ Some low → e.state.cut ≡ false
       → loaded e.state.high ≡ true → e.state.low.position ≤ e.state.low.length
       → (next e).out ≡ (if ltb 0 e.state.left then breaks_off else sends low 0x02)
   pub soon : (w : Station) → SenderReady w.end → (agreed w.end.state.settings).pre ≡ true → (p : List ℕ)

@@ -1,34 +1,28 @@
 -- The receiver's call, one for each octet (docs/READING.md; document 01, "Receiver", and for the bounds "Refusal table"; document 02, slips 4, 5 and 8).
-use Rattle.std.specs.Prelude.{Bool, true, false, not, ◌&&◌, ◌||◌, List, [], ◌∷◌, ℕ, ◌+◌, ◌-◌, leb, ltb, eqb, length, take, replicate}
+use Rattle.std.specs.Prelude.{Bool, true, false, not, ◌&&◌, ◌||◌, List, [], ◌∷◌, ℕ, ◌+◌, ◌-◌, leb, ltb, eqb, length, take, replicate, Option, Some, None, Result, Ok, Err}
 use Rattle.std.specs.Prelude.{if◌then◌else◌}
 use Rattle.fcs.specs.CheckSequence.{ones, register, good}
-use Rattle.cobs.specs.CodeBlocks.{flag, from_line, meaning}
-use Rattle.cobs.specs.declared.Meaning.{Meaning}
-use Rattle.cobs.specs.declared.Meaning.TheVariants.{InTable, NotAgreed, NoCode}
+use Rattle.cobs.specs.CodeBlocks.{flag, from_line, Meaning, meaning}
+use Rattle.cobs.specs.declared.CodeError.TheVariants.{NotAgreed, NoCode}
 use Rattle.plain.specs.declared.Taken.{Taken}
 use Rattle.plain.specs.declared.Taken.TheVariants.{Removed, Escape, Data}
 use Rattle.plain.specs.Stuffing.{taken}
 pub use Rattle.plain.specs.Area.{write}
-use Rattle.link.specs.Agreed.{Settings, Agreed, agreed, valid_width, valid_limit, valid, least_frame, largest_frame, most_decoded}
+use Rattle.link.specs.Agreed.{Settings, Agreed, agreed, OpenError, opening, valid, least_frame, largest_frame, most_decoded}
 use Rattle.link.specs.Answers.{Answer, quiet, packet, held, refused}
 pub use Rattle.link.specs.declared.receiver.Fragment.{Fragment}
-pub use Rattle.link.specs.declared.receiver.Fragment.TheVariants.{NothingHeld as nothing_held, Holds as holds}
 pub use Rattle.link.specs.declared.receiver.LastBlock.{LastBlock}
 pub use Rattle.link.specs.declared.receiver.LastBlock.TheVariants.{NoBlock as no_block, BlockD0 as block_d0, OtherBlock as other_block}
 pub use Rattle.link.specs.declared.receiver.Mode.{Mode}
 pub use Rattle.link.specs.declared.receiver.Mode.TheVariants.{Off as kept_off, Cobs as cobs, Plain as plain, Escaped as escape_open}
-pub use Rattle.link.specs.declared.receiver.PlainReading.{PlainReading}
-pub use Rattle.link.specs.declared.receiver.PlainReading.TheVariants.{Off as reading_off, On as reading_on}
 pub use Rattle.link.specs.declared.receiver.Receiver.{Receiver}
-pub use Rattle.link.specs.declared.receiver.Opening.{Opening}
-pub use Rattle.link.specs.declared.receiver.Opening.TheVariants.{Opened as opened, Refused as refused_opening}
 
 -- ---- the state
 
 -- Document 01's list, item by item in its order, and the field of `Receiver` (declared in src/receiver.rt) that is the item:
 --   work area                                               turn: false for the first area, true for the second
 --   decoded count                                           decoded
---   held count, or none                                     held: `holds n k`, n octets, or `nothing_held`
+--   held count, or none                                     held: `holds n k`, n octets, or `None`
 --   check register of the held octets (slip 8)              the k beside the count; where none is held, its start value (`carried`)
 --   data left                                               left
 --   zeros due                                               zeros
@@ -42,8 +36,19 @@ pub use Rattle.link.specs.declared.receiver.Opening.TheVariants.{Opened as opene
 --   with an escape open (slip 5)                            `escape_open`
 --   receiving map (slip 5)                                  map
 
+-- What is held: nothing, or a fragment of n octets with the check register k.
+abbrev pub Held : Type 0
+Held = Option Fragment
+
+abbrev pub holds : ℕ → ℕ → Held
+holds n k = Some (record { count = n; register = k })
+
+-- Plain reading, as a receiver is opened: kept off, or on, with the receiving map.
+abbrev pub PlainReading : Type 0
+PlainReading = Option ℕ
+
 -- A fresh receiver, whatever its settings, its mode and map, the turn of the areas and what it holds.
-abbrev pub fresh : Settings → Mode → ℕ → Bool → Fragment → Receiver
+abbrev pub fresh : Settings → Mode → ℕ → Bool → Held → Receiver
 fresh settings mode map turn fragment =
     record {
       turn = turn;
@@ -68,21 +73,18 @@ escape_over plain = plain
 escape_over escape_open = plain
 
 -- Out of a frame all is as fresh but the settings, the mode and the map, the turn of the areas and what is held.
-abbrev pub out_of_frame : Receiver → Bool → Fragment → Receiver
+abbrev pub out_of_frame : Receiver → Bool → Held → Receiver
 out_of_frame r turn fragment = fresh r.settings (escape_over r.mode) r.map turn fragment
 
 -- An end is opened fresh: the first area is the work area, and nothing is held. With plain reading on COBS is read first; with it off the map
 -- is empty.
 abbrev pub opened_receiver : Settings → PlainReading → Receiver
-opened_receiver settings reading_off = fresh settings kept_off 0 false nothing_held
-opened_receiver settings (reading_on map) = fresh settings cobs map false nothing_held
+opened_receiver settings None = fresh settings kept_off 0 false None
+opened_receiver settings (Some map) = fresh settings cobs map false None
 
 -- Its opening is refused 23 of a limit out of range, and then 3 of any width but 16 or 32.
-abbrev pub open_receiver : Settings → PlainReading → Opening
-open_receiver settings reading =
-    if not (valid_limit (agreed settings)) then refused_opening 23
-    else if not (valid_width (agreed settings)) then refused_opening 3
-    else opened (opened_receiver settings reading)
+abbrev pub open_receiver : Settings → PlainReading → Result Receiver OpenError
+open_receiver settings reading = opening settings (opened_receiver settings reading)
 
 -- The state with some items changed. But for these six and `fresh` no definition and no proof writes a whole state out.
 
@@ -105,7 +107,7 @@ with_turn turn r =
     }
 
 -- what is held
-abbrev pub with_held : Fragment → Receiver → Receiver
+abbrev pub with_held : Held → Receiver → Receiver
 with_held fragment r =
     record {
       turn = r.turn;
@@ -197,12 +199,12 @@ with_mode mode r =
 -- What is held is let go: from now on nothing is. So at an FF that begins a frame (slip 4), at a D1 that is accepted or refused 21 (slip 8),
 -- and at the flag of a resumed frame that is delivered or refused; nowhere else.
 abbrev pub let_go : Receiver → Receiver
-let_go r = with_held nothing_held r
+let_go r = with_held None r
 
 -- The check register that is carried: it goes with the held count.
-abbrev pub carried : Agreed → Fragment → ℕ
-carried g nothing_held = ones g.check
-carried g (holds n k) = k
+abbrev pub carried : Agreed → Held → ℕ
+carried g None = ones g.check
+carried g (Some h) = h.register
 
 -- ---- in bounds ("Refusal table", last paragraph)
 
@@ -217,9 +219,9 @@ is_d0 block_d0 = true
 is_d0 other_block = false
 
 -- what is held, by the remembered refusal: with 5 nothing (slip 4), else no more than may be decoded, with any register of the width (slip 8)
-abbrev pub held_ok : Agreed → ℕ → Fragment → Bool
-held_ok g refusal nothing_held = true
-held_ok g refusal (holds n k) = not (eqb refusal 5) && leb n (most_decoded g) && leb k (ones g.check)
+abbrev pub held_ok : Agreed → ℕ → Held → Bool
+held_ok g refusal None = true
+held_ok g refusal (Some h) = not (eqb refusal 5) && leb h.count (most_decoded g) && leb h.register (ones g.check)
 
 -- data left, zeros due and last block as in a fresh receiver
 abbrev pub no_block_open : Receiver → Bool
@@ -266,6 +268,10 @@ mode_ok r =
     && (not (is_plain r.mode) || no_block_open r)
     && (not (is_escaped r.mode) || r.framed)
 
+-- in a frame or not, with a refusal remembered or not
+abbrev pub frame_ok : Receiver → Bool
+frame_ok r = refusal_ok r.refusal && (if r.framed then is_plain r.mode || not (eqb r.refusal 0) || last_block_ok r.last r else fresh_ok r)
+
 -- all of it, with 207 data octets and 2 zeros at the most, and no count above what may be decoded
 unfoldable pub in_bounds : Agreed → Receiver → Bool
 in_bounds g r =
@@ -273,9 +279,8 @@ in_bounds g r =
     && held_ok g r.refusal r.held
     && leb r.left 207
     && leb r.zeros 2
-    && refusal_ok r.refusal
     && mode_ok r
-    && (if r.framed then is_plain r.mode || not (eqb r.refusal 0) || last_block_ok r.last r else fresh_ok r)
+    && frame_ok r
 
 -- ---- an octet that is no flag (steps 1 to 4)
 
@@ -319,11 +324,11 @@ abbrev pub step2_begin_block : LastBlock → ℕ → ℕ → Receiver → Receiv
 step2_begin_block b n z r = with_due n z (in_frame b r.resumed r.refusal r)
 
 unfoldable pub step2_by_meaning : Agreed → Working → ℕ → Meaning → Working
-step2_by_meaning g w c (InTable n z) =
-    if eqb n 0 then step3_decode g (replicate z 0) (record { state = step2_begin_block (last_block c) 0 0 w.state; area = w.area })
-    else record { state = step2_begin_block (last_block c) n z w.state; area = w.area }
-step2_by_meaning g w c NotAgreed = step4_refuse 6 w
-step2_by_meaning g w c NoCode = step4_refuse 7 w
+step2_by_meaning g w c (Ok row) =
+    if eqb row.nonzeros 0 then step3_decode g (replicate row.zeros 0) (record { state = step2_begin_block (last_block c) 0 0 w.state; area = w.area })
+    else record { state = step2_begin_block (last_block c) row.nonzeros row.zeros w.state; area = w.area }
+step2_by_meaning g w c (Err NotAgreed) = step4_refuse 6 w
+step2_by_meaning g w c (Err NoCode) = step4_refuse 7 w
 
 unfoldable pub step2_code : Agreed → Working → ℕ → Working
 step2_code g w c = step2_by_meaning g w c (meaning g.zxe c)
@@ -339,10 +344,10 @@ step1_restart r = step4_remember 5 r.resumed (let_go r)
 abbrev pub step1_resume : ℕ → Receiver → Receiver
 step1_resume n r = with_due 0 0 (with_decoded n (in_frame no_block true 0 (with_turn (not r.turn) r)))
 
-unfoldable pub step1_resume_held : Agreed → List ℕ → Fragment → Receiver → Receiver
-step1_resume_held g aside nothing_held r = step4_remember 8 true r
-step1_resume_held g aside (holds n k) r =
-    if eqb (register g.check (take n aside)) k then step1_resume n (let_go r) else step4_remember 21 true (let_go r)
+unfoldable pub step1_resume_held : Agreed → List ℕ → Held → Receiver → Receiver
+step1_resume_held g aside None r = step4_remember 8 true r
+step1_resume_held g aside (Some h) r =
+    if eqb (register g.check (take h.count aside)) h.register then step1_resume h.count (let_go r) else step4_remember 21 true (let_go r)
 
 unfoldable pub step1_d1 : Agreed → List ℕ → Receiver → Receiver
 step1_d1 g aside r = if g.pre then step1_resume_held g aside r.held r else step4_remember 6 true r
@@ -378,9 +383,9 @@ step5_end a r = record { report = a; state = frame_over (if r.resumed then let_g
 
 -- Held: how many octets are decoded, and whether this frame, if not a resumed one, took an older fragment's place. The two areas change places:
 -- the work area holds from now on, and the register of its decoded octets is carried (slip 8).
-abbrev pub is_held : Fragment → Bool
-is_held nothing_held = false
-is_held (holds n k) = true
+abbrev pub is_held : Held → Bool
+is_held None = false
+is_held (Some h) = true
 
 abbrev pub step5_hold : Agreed → Receiver → List ℕ → Ended
 step5_hold g r area =

@@ -1,18 +1,14 @@
 -- The sender's calls, load and next octet (docs/READING.md and document 01, "Sender"; the bounds: "Refusal table").
-use Rattle.std.specs.Prelude.{Bool, true, false, not, ◌&&◌, ◌||◌, List, ◌++◌, ℕ, ◌+◌, ◌-◌, leb, ltb, eqb, length, take, drop, get_or}
+use Rattle.std.specs.Prelude.{Bool, true, false, not, ◌&&◌, ◌||◌, List, ◌++◌, ℕ, ◌+◌, ◌-◌, leb, ltb, eqb, length, take, drop, get_or, Option, Some, None, Result}
 use Rattle.std.specs.Prelude.{if◌then◌else◌}
 use Rattle.cobs.specs.CodeBlocks.{frame, with_phantom, flag, to_line, choice}
 use Rattle.cobs.specs.declared.Choice.{Choice}
-use Rattle.link.specs.Agreed.{Settings, Agreed, agreed, valid_width, valid_limit, valid, least_packet, least_frame, largest_frame}
+use Rattle.link.specs.Agreed.{Settings, OpenError, Agreed, agreed, valid, least_packet, least_frame, largest_frame, opening}
 use Rattle.link.specs.Answers.{Answer, done, octet, idle, refused}
 pub use Rattle.link.specs.declared.sender.Lane.{Lane}
 pub use Rattle.link.specs.declared.sender.Lane.TheVariants.{Low as low, High as high}
-pub use Rattle.link.specs.declared.sender.OnLine.{OnLine}
-pub use Rattle.link.specs.declared.sender.OnLine.TheVariants.{NoLane as no_lane, Sending as sending}
 pub use Rattle.link.specs.declared.sender.LaneState.{LaneState}
 pub use Rattle.link.specs.declared.sender.Sender.{Sender}
-pub use Rattle.link.specs.declared.sender.Opening.{Opening}
-pub use Rattle.link.specs.declared.sender.Opening.TheVariants.{Opened as opened, Refused as refused_opening}
 
 -- ---- the state
 
@@ -20,11 +16,15 @@ pub use Rattle.link.specs.declared.sender.Opening.TheVariants.{Opened as opened,
 --   of each lane, its frame length and its position in D    low and high, each a `LaneState`: length (0 if empty), position
 --   data left in the block                                  left
 --   zeros due behind it                                     zeros
---   lane on the line                                        on: `sending l`, or `no_lane`
+--   lane on the line                                        on: `Some l`, or `None`
 --   mark *suspended*                                        suspended
 --   mark *cut due*                                          cut
 --   settings octet ("Code blocks"), width (slip 1),         settings: octet, width,
 --   limit (slip 11)                                         limit
+
+-- the lane on the line, or none
+abbrev pub OnLine : Type 0
+OnLine = Option Lane
 
 abbrev pub empty_lane : LaneState
 empty_lane = record { length = 0; position = 0 }
@@ -32,14 +32,11 @@ empty_lane = record { length = 0; position = 0 }
 -- a sender as it is opened,
 abbrev pub opened_sender : Settings → Sender
 opened_sender settings =
-    record { low = empty_lane; high = empty_lane; left = 0; zeros = 0; on = no_lane; suspended = false; cut = false; settings = settings }
+    record { low = empty_lane; high = empty_lane; left = 0; zeros = 0; on = None; suspended = false; cut = false; settings = settings }
 
 -- where the opening is not refused: 23 of a limit out of range, and then 3 of any width but 16 or 32
-abbrev pub open_sender : Settings → Opening
-open_sender settings =
-    if not (valid_limit (agreed settings)) then refused_opening 23
-    else if not (valid_width (agreed settings)) then refused_opening 3
-    else opened (opened_sender settings)
+abbrev pub open_sender : Settings → Result Sender OpenError
+open_sender settings = opening settings (opened_sender settings)
 
 abbrev pub lane_state : Lane → Sender → LaneState
 lane_state low s = s.low
@@ -86,9 +83,9 @@ lane_on_line_ok q s = loaded q && leb (q.position + s.left + s.zeros) (q.length 
 -- With no lane on the line nothing is left or due. Low is not suspended while it is on the line. Only low can have a cut due, and then its
 -- block has no data left.
 abbrev pub line_ok : OnLine → Sender → Bool
-line_ok no_lane s = eqb s.left 0 && eqb s.zeros 0 && not s.cut
-line_ok (sending low) s = lane_on_line_ok s.low s && not s.suspended && (not s.cut || eqb s.left 0)
-line_ok (sending high) s = lane_on_line_ok s.high s && not s.cut
+line_ok None s = eqb s.left 0 && eqb s.zeros 0 && not s.cut
+line_ok (Some low) s = lane_on_line_ok s.low s && not s.suspended && (not s.cut || eqb s.left 0)
+line_ok (Some high) s = lane_on_line_ok s.high s && not s.cut
 
 -- all of it, with 207 data octets and 2 zeros at the most, no zeros without data, and a frame in a lane that is suspended
 unfoldable pub in_bounds : Agreed → Sender → Bool
@@ -155,16 +152,16 @@ pub record Step : Type 0 where
 
 -- Step 1, a cut is due: the flag. From then on low is suspended, and no lane on the line.
 abbrev pub step1_cut_due : Sender → Step
-step1_cut_due s = record { out = breaks_off; state = with_line no_lane (with_marks true false s) }
+step1_cut_due s = record { out = breaks_off; state = with_line None (with_marks true false s) }
 
 -- Step 3, all of D is covered: the flag. It leaves the lane empty, and no lane on the line.
 abbrev pub step3_covered : Lane → Sender → Step
-step3_covered l s = record { out = closes l; state = with_line no_lane (with_lane l empty_lane s) }
+step3_covered l s = record { out = closes l; state = with_line None (with_lane l empty_lane s) }
 
 -- Step 4, low gives way to high: with data left in its block by a flag, which drops what is left; else by 02, and a cut is due.
 unfoldable pub step4_break_off : Sender → Step
 step4_break_off s =
-    if ltb 0 s.left then record { out = breaks_off; state = with_line no_lane (with_marks true s.cut (with_block 0 0 s)) }
+    if ltb 0 s.left then record { out = breaks_off; state = with_line None (with_marks true s.cut (with_block 0 0 s)) }
     else record { out = sends low 0x02; state = with_marks s.suspended true s }
 
 -- Step 5, data is left: the next octet of D (`d`). The last one covers its block's zeros too.
@@ -210,16 +207,16 @@ lane_area high e = e.high
 unfoldable pub step2_no_lane : Agreed → SenderEnd → Step
 step2_no_lane g e =
     let s = e.state in
-    if loaded s.high then steps_3_to_6 g high (with_line (sending high) s) (lane_d s.high e.high)
+    if loaded s.high then steps_3_to_6 g high (with_line (Some high) s) (lane_d s.high e.high)
     else if not (loaded s.low) then record { out = sends_nothing; state = s }
-    else if s.suspended then record { out = sends low 0xD1; state = with_line (sending low) (with_marks false s.cut s) }
-    else steps_3_to_6 g low (with_line (sending low) s) (lane_d s.low e.low)
+    else if s.suspended then record { out = sends low 0xD1; state = with_line (Some low) (with_marks false s.cut s) }
+    else steps_3_to_6 g low (with_line (Some low) s) (lane_d s.low e.low)
 
 -- The first step that applies, by the mark cut due and by the lane on the line.
 unfoldable pub steps_1_to_6 : Agreed → SenderEnd → Bool → OnLine → Step
 steps_1_to_6 g e true o = step1_cut_due e.state
-steps_1_to_6 g e false no_lane = step2_no_lane g e
-steps_1_to_6 g e false (sending l) = steps_3_to_6 g l e.state (lane_d (lane_state l e.state) (lane_area l e))
+steps_1_to_6 g e false None = step2_no_lane g e
+steps_1_to_6 g e false (Some l) = steps_3_to_6 g l e.state (lane_d (lane_state l e.state) (lane_area l e))
 
 -- Next octet: refusals 3 (of the width or the limit), 2 and 3, in this order, or the steps.
 unfoldable pub next : SenderEnd → Step

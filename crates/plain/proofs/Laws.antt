@@ -6,6 +6,7 @@ use Prim.Native.Nat.{ℕ, ◌+◌, ◌/◌, ◌%◌, ◌^◌, ◌≤◌, ◌<◌
 use native.Mathlib.Nat.{zero-div, one-mul, add-mul-div_right}
 use native.Mathlib.Omega.{arith}
 use borrow.Author.Tests.{eq-eqb, ne_eqb, eqb-true, eqb-false, le-ltb, lt-ltb}
+use Rattle.std.specs.Prelude.{Ok}
 use lib.Dec.{ltb, eqb}
 use lib.ListN.{length, get_or, set, length-set}
 use lib.Pow.{pow_pos}
@@ -15,7 +16,7 @@ use Rattle.cobs.specs.CodeBlocks.{flag}
 use Rattle.cobs.proofs.Tests.{branch}
 use Rattle.plain.specs.Area.{write}
 use Rattle.plain.specs.Maps.{escape, removed, marked, marking, with_framing, lacks, marks_wrongly, refused_pair, marks_ok}
-use Rattle.plain.specs.Stuffing.{Removed, Escape, Data, written, refused_send, toggled, stuffed_octet, stuffed, line, send, taken}
+use Rattle.plain.specs.Stuffing.{Removed, Escape, Data, no_room, toggled, stuffed_octet, stuffed, line, send, taken}
 use Rattle.plain.specs.ReadBack.{unstuffed, after, kept}
 use Rattle.plain.proofs.Some.{or_left, or_right, some_same}
 
@@ -102,11 +103,11 @@ marked-octet marks x e = rw e
 
 module _ (marks f area : List ℕ) where
   pub sends : length (line marks f) ≤ length area
-      → send marks f area ≡ record { answer = written (length (line marks f)); area = write area 0 (line marks f) }
+      → send marks f area ≡ record { answer = Ok (length (line marks f)); area = write area 0 (line marks f) }
   unfolding send
   sends h = rw (le-ltb (length area) (length (line marks f)) h)
 
-  pub too_short : length area < length (line marks f) → send marks f area ≡ record { answer = refused_send 2; area = area }
+  pub too_short : length area < length (line marks f) → send marks f area ≡ record { answer = no_room; area = area }
   unfolding send
   too_short h = rw (lt-ltb (length area) (length (line marks f)) h)
 

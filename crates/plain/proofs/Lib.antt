@@ -5,3 +5,4 @@ pub mod Laws
 pub mod ReadBack
 mod Area
 mod Stuffed
+mod Rules

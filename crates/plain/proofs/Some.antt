@@ -1,11 +1,12 @@
 -- Tests joined by `||`, and a test of numbers one after another.
 use mathlib.Core.Path.{◌≡◌, refl}
 use mathlib.Core.Bool.{Bool, true, false, not, ◌&&◌, ◌||◌}
-use Prim.Native.Nat.{ℕ, zero, suc, ◌+◌, ◌-◌, ◌≤◌, ◌<◌}
+use Prim.Native.Nat.{ℕ, zero, suc, ◌+◌, ◌≤◌, ◌<◌}
 use native.Mathlib.Omega.{arith}
 use borrow.Author.Tests.{eqb-true, eqb-false}
 use lib.Dec.{eqb}
 use Rattle.cobs.proofs.Tests.{decide, true-false}
+use Rattle.std.specs.List.{list_any, range_with_len}
 use Rattle.plain.specs.Maps.{some_from}
 
 -- neither of two tests is passed
@@ -40,15 +41,8 @@ none_passes f n (suc k) e x a b =
     let d = eqb-false x n t in
     none_passes f (n + 1) k (or_right (f n) (some_from f (n + 1) k) e) x (omega arith) (omega arith))
 
--- The numbers from n on and below the bound, one after another: n does not pass, or it does, or there are no more.
-pub some_more : (f : ℕ → Bool) (n bound : ℕ) → n < bound → f n ≡ false → some_from f n (bound - n) ≡ some_from f (n + 1) (bound - (n + 1))
+-- the numbers as a list
+pub some-of : (f : ℕ → Bool) (n k : ℕ) → list_any f (range_with_len n k) ≡ some_from f n k
 unfolding some_from
-some_more f n bound h e = let k : bound - n ≡ suc (bound - (n + 1)) = omega arith in rw (k, e)
-
-pub some-found : (f : ℕ → Bool) (n bound : ℕ) → n < bound → f n ≡ true → some_from f n (bound - n) ≡ true
-unfolding some_from
-some-found f n bound h e = let k : bound - n ≡ suc (bound - (n + 1)) = omega arith in rw (k, e)
-
-pub some-none : (f : ℕ → Bool) (n bound : ℕ) → bound ≤ n → some_from f n (bound - n) ≡ false
-unfolding some_from
-some-none f n bound h = let k : bound - n ≡ 0 = omega arith in rw k
+some-of f n zero = refl
+some-of f n (suc k) = rw (some-of f (n + 1) k)

@@ -1,10 +1,10 @@
 -- What is sent reads back, and what is removed leaves no trace (docs/DEMANDS.md). Each is proved in proofs/ReadBack.antt.
-use Rattle.std.specs.Prelude.{Bool, true, false, ◌≡◌, ℕ, replicate}
+use Rattle.std.specs.Prelude.{Bool, true, false, ◌≡◌, ℕ, replicate, Ok}
 use mathlib.Core.List.{List, [], ◌∷◌, ◌++◌, Memᴰ}
 use Rattle.std.specs.Prelude.{if◌then◌else◌}
 use Rattle.cobs.specs.CodeBlocks.{flag}
 use Rattle.plain.specs.Maps.{removed, marking, with_framing, lacks, refused_pair, marks_ok}
-use Rattle.plain.specs.Stuffing.{Taken, Removed, Escape, Data, written, refused_send, stuffed, line, send, taken}
+use Rattle.plain.specs.Stuffing.{Taken, Removed, Escape, Data, no_room, stuffed, line, send, taken}
 
 -- octets without their stuffing, and whether an escape is open behind them
 pub record Unstuffed : Type 0 where
@@ -72,10 +72,10 @@ pub record StuffingCases : Type 0 where
   pub escapes : line framing_and_5d (0x5D ∷ 0x7D ∷ 0x7E ∷ 0x5E ∷ 0xCF ∷ 0x0C ∷ [])
       ≡ 0x7D ∷ 0x7D ∷ 0x7D ∷ 0x5D ∷ 0x7D ∷ 0x5E ∷ 0x5E ∷ 0xCF ∷ 0x0C ∷ 0x7E ∷ []
   pub fits : send framing (0x41 ∷ 0x42 ∷ 0x7E ∷ []) (replicate 6 0xAA)
-      ≡ record { answer = written 5; area = 0x41 ∷ 0x42 ∷ 0x7D ∷ 0x5E ∷ 0x7E ∷ 0xAA ∷ [] }
+      ≡ record { answer = Ok 5; area = 0x41 ∷ 0x42 ∷ 0x7D ∷ 0x5E ∷ 0x7E ∷ 0xAA ∷ [] }
   pub exactly : send framing (0x41 ∷ 0x42 ∷ 0x7E ∷ []) (replicate 5 0xAA)
-      ≡ record { answer = written 5; area = 0x41 ∷ 0x42 ∷ 0x7D ∷ 0x5E ∷ 0x7E ∷ [] }
-  pub fits_not : send framing (0x41 ∷ 0x42 ∷ 0x7E ∷ []) (replicate 4 0xAA) ≡ record { answer = refused_send 2; area = replicate 4 0xAA }
+      ≡ record { answer = Ok 5; area = 0x41 ∷ 0x42 ∷ 0x7D ∷ 0x5E ∷ 0x7E ∷ [] }
+  pub fits_not : send framing (0x41 ∷ 0x42 ∷ 0x7E ∷ []) (replicate 4 0xAA) ≡ record { answer = no_room; area = replicate 4 0xAA }
   pub within : unstuffed 0x20000 false (0x7D ∷ 0x11 ∷ 0x5E ∷ 0x11 ∷ 0x41 ∷ 0x1E ∷ 0x36 ∷ 0x7D ∷ 0x11 ∷ [])
       ≡ record { octets = 0x7E ∷ 0x41 ∷ 0x1E ∷ 0x36 ∷ []; escaped = true }
   pub lacking : refused_pair 0x00000001 (replicate 32 0x00) ≡ true

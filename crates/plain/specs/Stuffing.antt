@@ -1,17 +1,15 @@
 -- Octet stuffing (docs/READING.md, "Plain PPP"; document 02, slip 5; RFC 1662, 4.1 and 4.2): what a sender writes for a frame, and what each
 -- octet says to a receiver.
-use Rattle.std.specs.Prelude.{Bool, ℕ, ltb, eqb, length}
+use Rattle.std.specs.Prelude.{Bool, ℕ, ltb, eqb, length, Result, Ok, Err}
 use mathlib.Core.List.{List, [], ◌∷◌, ◌++◌, flat_map}
 use Rattle.std.specs.Prelude.{if◌then◌else◌}
 use Rattle.fcs.specs.Notation.{◌⊕◌}
-use Rattle.fcs.specs.CheckSequence.{Check, check16, check32}
 use Rattle.cobs.specs.CodeBlocks.{flag}
 use Rattle.plain.specs.Area.{write}
 use Rattle.plain.specs.Maps.{escape, removed, marked}
 pub use Rattle.plain.specs.declared.Taken.{Taken}
 pub use Rattle.plain.specs.declared.Taken.TheVariants.{Removed, Escape, Data}
-pub use Rattle.plain.specs.declared.Sent.{Sent}
-pub use Rattle.plain.specs.declared.Sent.TheVariants.{Written as written, Refused as refused_send}
+pub use Rattle.plain.specs.declared.NoRoom.{NoRoom}
 
 -- an escaped octet's other form
 unfoldable pub toggled : ℕ → ℕ
@@ -30,20 +28,23 @@ stuffed marks = flat_map (stuffed_octet marks)
 unfoldable pub line : List ℕ → List ℕ → List ℕ
 line marks f = stuffed marks f ++ (flag ∷ [])
 
--- the check of 32 bits, or of 16
-abbrev pub check_of : Bool → Check
-check_of wide = if wide then check32 else check16
+-- how many octets are written, or 2
+abbrev pub Sent : Type 0
+Sent = Result ℕ NoRoom
+
+abbrev pub no_room : Sent
+no_room = Err (record {})
 
 pub record Send : Type 0 where
   pub answer : Sent
   pub area : List ℕ
 
--- The octets of a frame and its flag, from the area's start; how many they are is answered. Refused 2 exactly where they do not fit.
+-- The octets of a frame and its flag, from the area's start; how many they are is answered. Refused exactly where they do not fit.
 unfoldable pub send : List ℕ → List ℕ → List ℕ → Send
 send marks f area =
     let xs = line marks f in
-    if ltb (length area) (length xs) then record { answer = refused_send 2; area = area }
-    else record { answer = written (length xs); area = write area 0 xs }
+    if ltb (length area) (length xs) then record { answer = no_room; area = area }
+    else record { answer = Ok (length xs); area = write area 0 xs }
 
 -- ---- the receiver
 

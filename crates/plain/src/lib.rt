@@ -5,8 +5,11 @@ ghost use Rattle.std.specs.Prelude.{◌≡◌, ◌+◌, ◌≤◌, ◌++◌, ltb
 ghost use Rattle.cobs.specs.CodeBlocks.{frame};
 ghost use Rattle.plain.specs.Area.{write};
 ghost use Rattle.plain.specs.Maps.{removed, marked, marking, with_framing, lacks, marks_wrongly, refused_pair, marks_ok};
-ghost use Rattle.plain.specs.Stuffing.{toggled, stuffed, line, check_of, send, taken};
+ghost use Rattle.plain.specs.Stuffing.{toggled, stuffed, line, send, taken};
 ghost use Rattle.plain.specs.ReadBack.{SentReadsBack, RemovedLeaveNoTrace, StuffingCases};
+
+use fcs::Register;
+use std::convert::AsSlice;
 
 // Announces an escaped octet.
 pub const ESCAPE: u8 = 0x7d;
@@ -20,119 +23,95 @@ fn toggle(octet: u8) -> u8
 
 // ---- the maps
 
+// A sending map is a plain array and no struct of its own, which would have no fact to keep: maps that are refused are handed in too.
+
 // Whether the receiving map removes an octet.
+#[tactic(auto, unfolding(crate::specs::Maps::removed))]
 pub fn removed(map: u32, octet: u8) -> bool
     ensures { result ≡ removed map octet }
 {
-    if 0x20 <= octet {
-        return false;
-    }
-    (map >> octet) % 2 == 1
+    octet < 0x20 && (map >> octet) % 2 == 1
 }
 
 // Whether the sending map has an octet sent escaped.
+#[tactic(auto, unfolding(crate::specs::Maps::marked))]
 pub fn marked(marks: &[u8; 32], octet: u8) -> bool
     ensures { result ≡ marked marks.now octet }
 {
     (marks[(octet / 8) as usize] >> (octet % 8)) % 2 == 1
 }
 
-// The map with one mark more.
-fn mark(marks: [u8; 32], octet: u8) -> [u8; 32]
-    ensures { result ≡ marking octet marks }
+// One mark more.
+#[tactic(auto, using(crate::proofs::Rules::marking))]
+fn mark(marks: &mut [u8; 32], octet: u8)
+    ensures { marks.new ≡ marking octet marks.old }
 {
-    let mut next = marks;
-    next[(octet / 8) as usize] = marks[(octet / 8) as usize] | (1 << (octet % 8));
-    next
+    marks[(octet / 8) as usize] |= 1 << (octet % 8);
 }
 
 // The map with 7D and 7E, which a sending map always has.
-pub fn with_framing(marks: [u8; 32]) -> [u8; 32]
+#[tactic(auto, unfolding(crate::specs::Maps::with_framing))]
+pub fn with_framing(mut marks: [u8; 32]) -> [u8; 32]
     ensures { result ≡ with_framing marks }
 {
-    mark(mark(marks, ESCAPE), cobs::FLAG)
+    mark(&mut marks, ESCAPE);
+    mark(&mut marks, cobs::FLAG);
+    marks
 }
 
 // Whether the sending map lacks a mark of the receiving one.
 fn lacks(map: u32, marks: &[u8; 32]) -> bool
     ensures { result ≡ lacks map marks.now }
 {
-    let mut x = 0u8;
-    while x < 0x20 {
-        if removed(map, x) & !marked(marks, x) {
-            return true;
-        }
-        x += 1;
-    }
-    false
+    (0..0x20).any(|octet| removed(map, octet) && !marked(marks, octet))
 }
 
 // Whether an octet would be sent escaped as a flag (5E) or as one that may be removed (20 to 3F).
+#[tactic(auto, unfolding(crate::specs::Maps::marks_wrongly))]
 fn marks_wrongly(marks: &[u8; 32]) -> bool
     ensures { result ≡ marks_wrongly marks.now }
 {
-    if marked(marks, 0x5e) {
-        return true;
-    }
-    let mut x = 0x20u8;
-    while x < 0x40 {
-        if marked(marks, x) {
-            return true;
-        }
-        x += 1;
-    }
-    false
+    marked(marks, 0x5e) || (0x20..0x40).any(|octet| marked(marks, octet))
 }
 
 // Whether 19 refuses a pair of maps.
+#[tactic(auto, unfolding(crate::specs::Maps::refused_pair))]
 pub fn refused_pair(map: u32, marks: &[u8; 32]) -> bool
     ensures { result ≡ refused_pair map marks.now }
 {
-    lacks(map, marks) | marks_wrongly(marks)
+    lacks(map, marks) || marks_wrongly(marks)
 }
 
 // Whether a sending map that is handed in is in bounds.
+#[tactic(auto, unfolding(crate::specs::Maps::marks_ok))]
 pub fn marks_ok(marks: &[u8; 32]) -> bool
     ensures { result ≡ marks_ok marks.now }
 {
-    marked(marks, ESCAPE) & marked(marks, cobs::FLAG) & !marks_wrongly(marks)
+    marked(marks, ESCAPE) && marked(marks, cobs::FLAG) && !marks_wrongly(marks)
 }
 
 // ---- the sender
 
-#[derive(Clone, Copy)]
-pub enum Sent {
-    // so many octets
-    Written(usize),
-    // 2; above, in `link`, 1 and 3 too
-    Refused(u8),
-}
+// Refusal 2: the area is shorter than what is to be written.
+#[derive(Clone, Copy, Debug, PartialEq, Eq)]
+pub struct NoRoom;
 
 // How many octets are written for some.
 fn stuffed_length(octets: &[u8], marks: &[u8; 32]) -> usize
     ensures { result ≡ length (stuffed marks.now octets.now) }
 {
-    let mut n = octets.len();
-    let mut i = 0;
-    while i < octets.len() {
-        if marked(marks, octets[i]) {
-            n += 1;
-        }
-        i += 1;
-    }
-    n
+    octets.len() + octets.iter().filter(|&&octet| marked(marks, octet)).count()
 }
 
-// Octets, stuffed, into an area from a place on; answers the place behind them.
+// Octets, stuffed, into an area from a place on; answers the place behind them. The place goes up by hand, since an escape is two octets.
+#[tactic(auto, using(crate::proofs::Rules::stuffing))]
 fn stuff(octets: &[u8], marks: &[u8; 32], area: &mut [u8], at: usize) -> usize
     requires { at + length (stuffed marks.now octets.now) ≤ length area.old }
     ensures area_after { area.new ≡ write area.old at (stuffed marks.now octets.now) }
     ensures value { result ≡ at + length (stuffed marks.now octets.now) }
 {
     let mut end = at;
-    let mut i = 0;
-    while i < octets.len() {
-        let octet = octets[i];
+    for &octet in octets {
         if marked(marks, octet) {
             area[end] = ESCAPE;
             area[end + 1] = toggle(octet);
@@ -141,61 +120,46 @@ fn stuff(octets: &[u8], marks: &[u8; 32], area: &mut [u8], at: usize) -> usize
             area[end] = octet;
             end += 1;
         }
-        i += 1;
     }
     end
 }
 
 // Whether a packet, the FCS behind it and the flag have no room: they are more octets than it.
+#[tactic(auto, using(crate::proofs::Rules::room))]
 fn no_room(packet: &[u8], fcs: &[u8], marks: &[u8; 32], room: usize) -> bool
     ensures { result ≡ ltb room (length (line marks.now (packet.now ++ fcs.now))) }
 {
-    let n = stuffed_length(packet, marks);
-    if room < n {
-        return true;
-    }
-    room - n <= stuffed_length(fcs, marks)
+    room <= stuffed_length(packet, marks).saturating_add(stuffed_length(fcs, marks))
 }
 
-// The same of the frame of a packet; wide: the check is that of 32 bits.
-pub fn too_long(packet: &[u8], wide: bool, marks: &[u8; 32], room: usize) -> bool
-    ensures { result ≡ ltb room (length (line marks.now (frame (check_of wide) packet.now))) }
+// The same of the frame of a packet, with R's check.
+pub fn too_long<R: Register>(packet: &[u8], marks: &[u8; 32], room: usize) -> bool
+    ensures { result ≡ ltb room (length (line marks.now (frame R.check packet.now))) }
 {
-    if wide {
-        return no_room(packet, &fcs::fcs32(packet), marks, room);
-    }
-    no_room(packet, &fcs::fcs16(packet), marks, room)
+    no_room(packet, fcs::fcs::<R>(packet).as_slice(), marks, room)
 }
 
-// A packet, the FCS behind it and the flag, from an area's start; refused 2 exactly where they do not fit.
-fn put(packet: &[u8], fcs: &[u8], marks: &[u8; 32], area: &mut [u8]) -> Sent
+// The frame of a packet and its flag, from an area's start; refused exactly where they do not fit.
+#[tactic(auto, using(crate::proofs::Rules::sending))]
+pub fn send<R: Register>(packet: &[u8], marks: &[u8; 32], area: &mut [u8]) -> Result<usize, NoRoom>
     ensures { record { answer = result; area = area.new }
-        ≡ send marks.now (packet.now ++ fcs.now) area.old }
+        ≡ send marks.now (frame R.check packet.now) area.old }
 {
+    let check = fcs::fcs::<R>(packet);
+    let fcs = check.as_slice();
     if no_room(packet, fcs, marks, area.len()) {
-        return Sent::Refused(2);
+        return Err(NoRoom);
     }
     let at = stuff(packet, marks, area, 0);
     let end = stuff(fcs, marks, area, at);
     area[end] = cobs::FLAG;
-    Sent::Written(end + 1)
-}
-
-// The frame of a packet and its flag, from an area's start; refused 2 exactly where they do not fit.
-pub fn send(packet: &[u8], wide: bool, marks: &[u8; 32], area: &mut [u8]) -> Sent
-    ensures { record { answer = result; area = area.new }
-        ≡ send marks.now (frame (check_of wide) packet.now) area.old }
-{
-    if wide {
-        return put(packet, &fcs::fcs32(packet), marks, area);
-    }
-    put(packet, &fcs::fcs16(packet), marks, area)
+    Ok(end + 1)
 }
 
 // ---- the receiver
 
 // What an octet that is no flag says on reading.
-#[derive(Clone, Copy)]
+#[derive(Clone, Copy, Debug, PartialEq, Eq)]
 pub enum Taken {
     Removed,
     // an escape is open from now on
@@ -205,19 +169,19 @@ pub enum Taken {
 }
 
 // escaped: an escape is open.
+#[tactic(auto, unfolding(crate::specs::Stuffing::taken))]
 pub fn take(map: u32, escaped: bool, octet: u8) -> Taken
     ensures { result ≡ taken map escaped octet }
 {
     if removed(map, octet) {
-        return Taken::Removed;
+        Taken::Removed
+    } else if escaped {
+        Taken::Data(toggle(octet))
+    } else if octet == ESCAPE {
+        Taken::Escape
+    } else {
+        Taken::Data(octet)
     }
-    if escaped {
-        return Taken::Data(toggle(octet));
-    }
-    if octet == ESCAPE {
-        return Taken::Escape;
-    }
-    Taken::Data(octet)
 }
 
 // What is claimed of this crate: each theorem that docs/DEMANDS.md names.

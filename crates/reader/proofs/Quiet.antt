@@ -1,60 +1,53 @@
 -- Octets that are answered Quiet, many at once: those before a flag, in a refused frame and in a block, and in a plain frame those that are
 -- copied as they are.
 use mathlib.Core.Path.{◌≡◌, refl, sym, ap, subst, ◌∙◌}
-use mathlib.Core.Bool.{Bool, true, false, ◌||◌}
+use mathlib.Core.Bool.{Bool, true, false, not, ◌&&◌, ◌||◌}
 use mathlib.Core.List.{List, [], ◌∷◌, map}
 use Prim.Native.Nat.{ℕ, zero, suc, ◌+◌, ◌-◌, ◌≤◌, ◌<◌}
+use native.Mathlib.Numerals.{add-one, one-add}
 use native.Mathlib.Nat.{add_assoc}
-use native.Mathlib.Numerals.{add-one}
 use native.Mathlib.Omega.{arith}
-use borrow.Author.Tests.{eqb-false}
-use lib.Dec.{eqb}
-use lib.ListN.{length, take, drop, get_or, set, length-map, length-take, length-drop, drop_of_length-le}
-use lib.Seq.{take_all, drop-cons, drop-drop, sets, sets-eq}
+use borrow.Author.Tests.{eqb-false, ltb-false, not-true, not-false}
+use lib.Dec.{eqb, ltb}
+use lib.ListN.{length, take, drop, set, length-map, length-take, length-drop}
+use lib.Seq.{sets, sets-eq, take_all, drop-drop}
+use Rattle.std.specs.List.{position, position_or_len}
+use Rattle.std.specs.Option.{unwrap_or}
+use Rattle.std.proofs.lemmas.List.Sums.{prefix_len-le-length}
 use Rattle.cobs.specs.CodeBlocks.{flag, from_line}
-use Rattle.cobs.proofs.Tests.{branch}
+use Rattle.cobs.proofs.Tests.{branch, and_left, and_right}
 use Rattle.plain.specs.Maps.{escape, removed}
 use Rattle.link.specs.Agreed.{agreed, largest_frame, most_decoded}
+use Rattle.link.specs.declared.receiver.Receiver.{Receiver}
 use Rattle.link.specs.declared.receiver.Mode.TheVariants.{Plain as plain}
-use Rattle.link.specs.Receiver.{ReceiverEnd, Receive, write, work, receive}
+use Rattle.link.specs.Receiver.{ReceiverEnd, Receive, is_plain, is_escaped, with_decoded, with_due, write, work, receive}
 use Rattle.link.specs.ReceiverParts.{ReceiverReady}
+use Rattle.link.proofs.PlainFrames.{mode-by}
 use Rattle.link.proofs.Tests.{or_left, or_right}
-use Rattle.link.proofs.ReadOn.{after-quiet, skips, after_data, decodes, data-more, no-data, data-area, after_plain, copies, plain_more, no_plain, plain-area}
-use Rattle.reader.specs.Stretches.{before, is_flag, is_special, before_flag, before_special, with_counts}
+use Rattle.link.proofs.Agreed.{decoded-at-most}
+use Rattle.link.proofs.ReadOn.{deep, after-quiet, skips, after_data, decodes, data-more, no-data, data-area, after_plain, copies, plain_more, no_plain, plain-area}
+use Rattle.reader.specs.Stretches.{is_flag, is_special, before_flag, before_special}
 use Rattle.link.specs.Answers.{is_quiet}
 use Rattle.reader.specs.Reading.{Reach, used_before, read_on}
 use Rattle.reader.proofs.Steps.{from-quiet, begins}
 use Rattle.reader.proofs.NothingLost.{is-quiet}
 
--- ---- the octets before the first that a test holds of, at the numbers of a loop
+-- ---- the octets before the first that a test holds of
 
 module _ (test : ℕ → Bool) where
-  module _ (l : List ℕ) (i : ℕ) where
-    pub one_more : i < length l → test (get_or l i 0) ≡ false → before test (drop i l) ≡ before test (drop (i + 1) l) + 1
-    unfolding before
-    one_more h t = rw (add-one i, add-one (before test (drop (suc i) l)), drop-cons l i 0, t)
+  pub within : (l : List ℕ) → position_or_len test l ≤ length l
+  within l = prefix_len-le-length _ l
 
-    pub at_first : i < length l → test (get_or l i 0) ≡ true → before test (drop i l) ≡ 0
-    unfolding before
-    at_first h t = rw (drop-cons l i 0, t)
+  -- all, where there is none
+  pub found_or_all : (l : List ℕ) → unwrap_or (position test l) (length l) ≡ position_or_len test l
+  found_or_all l =
+      branch (λ r. unwrap_or r (length l) ≡ position_or_len test l) (ltb (position_or_len test l) (length l)) (λ _. refl)
+      (λ k. omega (arith, ltb-false _ _ k, within l))
 
-    pub at-end : length l ≤ i → before test (drop i l) ≡ 0
-    unfolding before
-    at-end h = rw (drop_of_length-le l h)
-
-  pub within : (l : List ℕ) → before test l ≤ length l
-  unfolding before
-  within [] = omega arith
-  within (x ∷ l) = branch (λ k. k ≤ suc (length l)) (test x) (λ _. omega arith) (λ _. omega (arith, within l))
-
--- ---- data octets written, at the numbers of a loop
-
-pub one-stored : (area xs : List ℕ) (at next i : ℕ) → i < length xs → next ≡ at + 1
-    → sets area at (map from_line (drop i xs)) ≡ sets (set area at (from_line (get_or xs i 0))) next (map from_line (drop (i + 1) xs))
-one-stored area xs at next i h e = rw (e, add-one i, add-one at, drop-cons xs i 0)
-
-pub all-stored : (area xs : List ℕ) (at : ℕ) → at + length xs ≤ length area → sets area at (map from_line xs) ≡ write area at (map from_line xs)
-all-stored area xs at h = sets-eq (map from_line xs) area at (rw length-map h)
+  -- what holds of 0 where the first octet passes, and else of one more than the count of the others, holds of the count
+  by-first : (P : ℕ → Type 0) (x : ℕ) (l : List ℕ) → (test x ≡ true → P 0) → (test x ≡ false → P (suc (position_or_len test l)))
+      → P (position_or_len test (x ∷ l))
+  by-first P x l f g = branch P (not (test x)) (λ n. subst P (sym (one-add _)) (g (not-true _ n))) (λ n. f (not-false _ n))
 
 -- ---- reading on over them
 
@@ -62,6 +55,28 @@ all-stored area xs at h = sets-eq (map from_line xs) area at (rw length-map h)
 pub ready-after : (e : ReceiverEnd) (x : ℕ) (h : Receive) → h ≡ receive e x → is_quiet h.report ≡ true → ReceiverReady h.after
 ready-after e x h p q =
     subst (λ (g : Receive). ReceiverReady g.after) (sym p) (after-quiet e x (ap (λ (g : Receive). g.report) (sym p) ∙ is-quiet h.report q))
+
+-- of n octets of l, used are copied behind those decoded: there is room for them
+pub record Fitting (e : ReceiverEnd) (l : List ℕ) (n used : ℕ) : Type 0 where
+  pub most : used ≤ n
+  pub within : used ≤ length l
+  pub first : e.state.decoded + length (take used l) ≤ length e.first
+  pub second : e.state.decoded + length (take used l) ≤ length e.second
+  pub counted : e.state.decoded + used < 65536
+
+pub fits : (e : ReceiverEnd) (l : List ℕ) (test : ℕ → Bool) (n used : ℕ) → ReceiverReady e → used ≡ position_or_len test (take n l) → n ≤ most_decoded (agreed e.state.settings) - e.state.decoded
+    → Fitting e l n used
+fits e l test n used a k d =
+    let t = e.state.settings in
+    let most : used ≤ n = omega (arith, k, within test (take n l), length-take n l) in
+    let deepest : e.state.decoded ≤ most_decoded (agreed t) = deep e a in
+    record {
+      most = most;
+      within = omega (arith, k, within test (take n l), length-take n l);
+      first = omega (arith, length-take used l, a.first);
+      second = omega (arith, length-take used l, a.second);
+      counted = omega (arith, decoded-at-most t a.valid);
+    }
 
 -- n octets at once, in the loop
 pub goes-far : (e f : ReceiverEnd) (xs : List ℕ) (i n : ℕ)
@@ -79,10 +94,9 @@ one-behind n r =
 -- a refusal is remembered
 pub skips-on : (e : ReceiverEnd) → ReceiverReady e → (e.state.refusal ≡ 0 → ⊥) → (l : List ℕ)
     → read_on e l ≡ used_before (before_flag l) (read_on e (drop (before_flag l) l))
-unfolding before
 skips-on e a n [] = begins e []
 skips-on e a n (x ∷ l) =
-    branch (λ k. read_on e (x ∷ l) ≡ used_before k (read_on e (drop k (x ∷ l)))) (eqb x flag) (λ _. begins e (x ∷ l))
+    by-first is_flag (λ k. read_on e (x ∷ l) ≡ used_before k (read_on e (drop k (x ∷ l)))) x l (λ _. begins e (x ∷ l))
     (λ t. from-quiet e x l _ (sym (skips e x a n (eqb-false x flag t))) refl ∙ ap (used_before 1) (skips-on e a n l) ∙ one-behind _ _)
 
 -- k data octets, turned back and stored behind those decoded
@@ -102,13 +116,12 @@ stored_more k x l e =
     ap (λ (area : List ℕ). after_data k area (after_data 1 one e)) s ∙ data-more k (sets one (suc n) rest) one e
 
 -- n data octets are left before the last of their block, and there is room for them
-pub stores-on : (n : ℕ) (l : List ℕ) (e : ReceiverEnd) → ReceiverReady e → e.state.refusal ≡ 0 → n < e.state.left → e.state.decoded + n ≤ most_decoded (agreed e.state.settings)
+pub stores-on : (n : ℕ) (l : List ℕ) (e : ReceiverEnd) → ReceiverReady e → e.state.refusal ≡ 0 → n < e.state.left → n ≤ most_decoded (agreed e.state.settings) - e.state.decoded
     → (let k = before_flag (take n l) in read_on e l ≡ used_before k (read_on (stored k l e) (drop k l)))
-unfolding before
 stores-on zero l e a c h d = none-stored e l
 stores-on (suc n) [] e a c h d = none-stored e []
 stores-on (suc n) (x ∷ l) e a c h d =
-    branch (λ k. read_on e (x ∷ l) ≡ used_before k (read_on (stored k (x ∷ l) e) (drop k (x ∷ l)))) (eqb x flag) (λ _. none-stored e (x ∷ l))
+    by-first is_flag (λ k. read_on e (x ∷ l) ≡ used_before k (read_on (stored k (x ∷ l) e) (drop k (x ∷ l)))) x (take n l) (λ _. none-stored e (x ∷ l))
     (λ t.
     let p = decodes e x a c (omega arith) (omega arith) (eqb-false x flag t) in
     let k = before_flag (take n l) in
@@ -120,31 +133,41 @@ stores-on (suc n) (x ∷ l) e a c h d =
 
 -- the same as the code does it: `used` octets are written into the work area, which is `area` afterwards
 module _ (e : ReceiverEnd) (l : List ℕ) (n used : ℕ) (area : List ℕ) (a : ReceiverReady e) (c : e.state.refusal ≡ 0) (h : n < e.state.left)
-    (d : e.state.decoded + n ≤ most_decoded (agreed e.state.settings)) (k : used ≡ before_flag (take n l)) where
-  reads_on : area ≡ write (work e).area e.state.decoded (map from_line (take used l))
+    (d : n ≤ most_decoded (agreed e.state.settings) - e.state.decoded) (k : used ≡ before_flag (take n l)) where
+  reads_on : area ≡ write (work e).area e.state.decoded (map from_line (take used l)) → e.state.decoded + length (take used l) ≤ length (work e).area
       → read_on e l ≡ used_before used (read_on (after_data used area e) (drop used l))
-  reads_on w =
+  reads_on w f =
       let m = e.state.decoded in
-      let room = most_decoded (agreed e.state.settings) in
-      let long : room ≤ length (work e).area = branch (λ (b : List ℕ). room ≤ length b) e.state.turn (λ _. a.second) (λ _. a.first) in
-      let fits : m + length (take used l) ≤ length (work e).area =
-      omega (arith, long, k, within is_flag (take n l), length-take n l, length-take used l) in
       let p : read_on e l ≡ used_before used (read_on (stored used l e) (drop used l)) = rw k (stores-on n l e a c h d) in
-      p ∙ ap (λ (b : List ℕ). used_before used (read_on (after_data used b e) (drop used l))) (all-stored (work e).area (take used l) m fits ∙ sym w)
+      p ∙ ap (λ (b : List ℕ). used_before used (read_on (after_data used b e) (drop used l))) (sets-eq (map from_line (take used l)) (work e).area m (rw length-map f) ∙ sym w)
 
   abbrev after : List ℕ → List ℕ → ReceiverEnd
   after first second =
-      record { state = with_counts (e.state.decoded + used) (e.state.left - used) e.state; first = first; second = second }
+      record { state = with_decoded (e.state.decoded + used) (with_due (e.state.left - used) e.state.zeros e.state); first = first; second = second }
 
   pub in-second : e.state.turn ≡ true → area ≡ write e.second e.state.decoded (map from_line (take used l))
       → read_on e l ≡ used_before used (read_on (after e.first area) (drop used l))
-  in-second t w = simp t (simp t at (reads_on (simp t w)))
+  in-second t w = simp t (simp t at (reads_on (simp t w) (simp t (fits e l is_flag n used a k d).second)))
 
   pub in-first : e.state.turn ≡ false → area ≡ write e.first e.state.decoded (map from_line (take used l))
       → read_on e l ≡ used_before used (read_on (after area e.second) (drop used l))
-  in-first t w = simp t (simp t at (reads_on (simp t w)))
+  in-first t w = simp t (simp t at (reads_on (simp t w) (simp t (fits e l is_flag n used a k d).first)))
 
 -- ---- a plain frame
+
+-- what the code has tested of it
+pub record PlainFrame (r : Receiver) : Type 0 where
+  pub reads : r.mode ≡ plain
+  pub framed : r.framed ≡ true
+
+pub plain-frame : (r : Receiver) (b : Bool) → b ≡ (is_plain r.mode && not (is_escaped r.mode)) → (not b || not r.framed) ≡ false → PlainFrame r
+plain-frame r b p t =
+    let m = r.mode in
+    let yes : (is_plain m && not (is_escaped m)) ≡ true = sym p ∙ not-false b (or_left (not b) (not r.framed) t) in
+    record {
+      reads = mode-by m (and_left (is_plain m) (not (is_escaped m)) yes) (not-true (is_escaped m) (and_right (is_plain m) (not (is_escaped m)) yes));
+      framed = not-false r.framed (or_right (not b) (not r.framed) t);
+    }
 
 -- k octets, stored behind those decoded
 abbrev stored_plain : ℕ → List ℕ → ReceiverEnd → ReceiverEnd
@@ -174,13 +197,12 @@ module _ (map x : ℕ) (t : is_special map x ≡ false) where
 
 -- in a plain frame, with no escape open and room for n octets
 pub copies-on : (n : ℕ) (l : List ℕ) (e : ReceiverEnd) → ReceiverReady e → e.state.mode ≡ plain → e.state.refusal ≡ 0 → e.state.framed ≡ true
-    → e.state.decoded + n ≤ largest_frame (agreed e.state.settings)
+    → n ≤ largest_frame (agreed e.state.settings) - e.state.decoded
     → (let k = before_special e.state.map (take n l) in read_on e l ≡ used_before k (read_on (stored_plain k l e) (drop k l)))
-unfolding before
 copies-on zero l e a m c f d = none-plain e l
 copies-on (suc n) [] e a m c f d = none-plain e []
 copies-on (suc n) (x ∷ l) e a m c f d =
-    branch (λ k. read_on e (x ∷ l) ≡ used_before k (read_on (stored_plain k (x ∷ l) e) (drop k (x ∷ l)))) (is_special e.state.map x) (λ _. none-plain e (x ∷ l))
+    by-first (is_special e.state.map) (λ k. read_on e (x ∷ l) ≡ used_before k (read_on (stored_plain k (x ∷ l) e) (drop k (x ∷ l)))) x (take n l) (λ _. none-plain e (x ∷ l))
     (λ t.
     let p = copies e x a m c f (omega arith) (not_flag e.state.map x t) (not-escape e.state.map x t) (not-removed e.state.map x t) in
     let k = before_special e.state.map (take n l) in
@@ -191,26 +213,24 @@ copies-on (suc n) (x ∷ l) e a m c f d =
     ∙ one-behind _ _)
 
 -- the same as the code does it
-module _ (e : ReceiverEnd) (l : List ℕ) (n used : ℕ) (area : List ℕ) (a : ReceiverReady e) (m : e.state.mode ≡ plain) (c : e.state.refusal ≡ 0) (f : e.state.framed ≡ true)
-    (d : e.state.decoded + n ≤ largest_frame (agreed e.state.settings)) (k : used ≡ before_special e.state.map (take n l)) where
-  plain-on : area ≡ write (work e).area e.state.decoded (take used l)
+module _ (e : ReceiverEnd) (l : List ℕ) (n used : ℕ) (area : List ℕ) (a : ReceiverReady e) (c : e.state.refusal ≡ 0) (f : PlainFrame e.state)
+    (d : n ≤ largest_frame (agreed e.state.settings) - e.state.decoded) (k : used ≡ before_special e.state.map (take n l)) where
+  plain-on : area ≡ write (work e).area e.state.decoded (take used l) → e.state.decoded + length (take used l) ≤ length (work e).area
       → read_on e l ≡ used_before used (read_on (after_plain used area e) (drop used l))
-  plain-on w =
-      let room = most_decoded (agreed e.state.settings) in
-      let long : room ≤ length (work e).area = branch (λ (b : List ℕ). room ≤ length b) e.state.turn (λ _. a.second) (λ _. a.first) in
-      let fits : e.state.decoded + length (take used l) ≤ length (work e).area =
-      omega (arith, long, k, within (is_special e.state.map) (take n l), length-take n l, length-take used l) in
-      let p : read_on e l ≡ used_before used (read_on (stored_plain used l e) (drop used l)) = rw k (copies-on n l e a m c f d) in
-      p ∙ ap (λ (b : List ℕ). used_before used (read_on (after_plain used b e) (drop used l))) (sets-eq (take used l) (work e).area e.state.decoded fits ∙ sym w)
+  plain-on w g =
+      let p : read_on e l ≡ used_before used (read_on (stored_plain used l e) (drop used l)) = rw k (copies-on n l e a f.reads c f.framed d) in
+      p ∙ ap (λ (b : List ℕ). used_before used (read_on (after_plain used b e) (drop used l))) (sets-eq (take used l) (work e).area e.state.decoded g ∙ sym w)
 
   abbrev behind : List ℕ → List ℕ → ReceiverEnd
-  behind first second =
-      record { state = with_counts (e.state.decoded + used) e.state.left e.state; first = first; second = second }
+  behind first second = record { state = with_decoded (e.state.decoded + used) e.state; first = first; second = second }
+
+  room : Fitting e l n used
+  room = fits e l (is_special e.state.map) n used a k (omega arith)
 
   pub plain_second : e.state.turn ≡ true → area ≡ write e.second e.state.decoded (take used l)
       → read_on e l ≡ used_before used (read_on (behind e.first area) (drop used l))
-  plain_second t w = simp t (simp t at (plain-on (simp t w)))
+  plain_second t w = simp t (simp t at (plain-on (simp t w) (simp t room.second)))
 
   pub plain-first : e.state.turn ≡ false → area ≡ write e.first e.state.decoded (take used l)
       → read_on e l ≡ used_before used (read_on (behind area e.second) (drop used l))
-  plain-first t w = simp t (simp t at (plain-on (simp t w)))
+  plain-first t w = simp t (simp t at (plain-on (simp t w) (simp t room.first)))

@@ -1,829 +1,437 @@
 // The sender as a program: packets in, the octets of the line on standard output (docs/SEND.md). Each file that it is called with has a sender of its own.
 #![tactic(auto)]
 
-ghost use Rattle.std.specs.Prelude.{◌≡◌, ◌<◌, ◌≤◌, length};
+ghost use Rattle.std.specs.Prelude.{◌≡◌, ◌<◌, ◌≤◌, length, IfSome, IfOk};
 
-use files::{File, System};
-use link::Settings;
-use link::sender::{Lane, LoadAnswer, Opening, Sender};
+use files::{File, Program, Stopped, System};
+use link::sender::{Lane, Sender};
+use link::{OpenError, Settings};
 use std::io;
 use std::io::{Error, Print, Read};
 use std::process::ExitCode;
 
-// Octets of a record before its packet: the lane, and two numbers of two octets.
-const HEAD: usize = 5;
-
 // The limit, where a file says none: document 01's.
 const DEFAULT_LIMIT: u16 = 2048;
 
-// The sender, and how many octets on the page are still to be written. on: there was no fault, and all was written;
-// deserted: not all was, since nobody reads on.
+// What a file has before its records; place: where in it these begin, and first: their first octet, where that is read already.
 #[derive(Clone, Copy)]
-struct Line {
-    filled: usize,
-    on: bool,
-    deserted: bool,
-    state: Sender,
+struct Head {
+    settings: Settings,
+    place: u64,
+    first: Option<u8>,
 }
 
-// What is wrong with a file of records.
+// What is wrong before the records. Missing: the file ends there, as the words say.
 #[derive(Drop)]
+enum HeadFault {
+    Unread(Error),
+    Missing(&'static [u8]),
+}
+
+// A record: its lane's letter (any octet: a wrong one is a fault of the record that is carried out), how many octets are sent ahead of it, and its
+// packet.
+#[derive(Clone, Copy)]
+struct Record<'a> {
+    lane: u8,
+    wait: usize,
+    packet: &'a [u8],
+}
+
+// What ends a file's records early.
+#[derive(Clone, Copy)]
 enum Fault {
-    Nothing,
+    Stopped(Stopped),
     Unread(Error),
     CutShort,
     WrongLane,
     Refused,
 }
 
-// The line after a record, or at the end of the file, and what was wrong there.
-#[derive(Drop)]
-struct Carried {
-    line: Line,
-    fault: Fault,
-}
-
-// A step along the line, and how many octets it put on the page.
-#[derive(Drop)]
-struct Step {
-    line: Line,
-    octets: usize,
-}
-
-// The line after some records, how many these were, and how many octets of the input they took.
-#[derive(Drop)]
-struct Taken {
-    line: Line,
-    fault: Fault,
-    records: usize,
-    used: usize,
-}
-
-// What a read answered, and how many octets of the input there are then.
-#[derive(Drop)]
-struct Came {
-    got: io::Result<usize>,
-    octets: usize,
-}
-
-// The line between reads, the records that a read made whole, and how many octets of one that is not whole stand at the input's start. over: there is
-// nothing more to read.
-#[derive(Drop)]
-struct Rest {
-    line: Line,
-    fault: Fault,
-    records: usize,
-    used: usize,
-    kept: usize,
-    over: bool,
-}
-
-// One octet of a file, and what the read answered.
-#[derive(Drop)]
-struct OneOctet {
-    got: io::Result<usize>,
-    octet: u8,
-}
-
-// Where in a file the records begin, how many octets of them were read (0 or 1), and which.
-#[derive(Drop)]
-struct Start {
-    place: u64,
-    kept: usize,
-    first: u8,
-}
-
-// A line at its end, and where in the file that is: behind so many records and so many octets. written: all that was sent is;
-// deserted: it is not, since nobody reads on.
-#[derive(Drop)]
-struct Outcome {
-    fault: Fault,
-    records: u64,
-    octets: u64,
-    written: bool,
-    deserted: bool,
-}
-
-// What became of a file. Whole: all of it was sent; Cut: it was not; Deserted: nobody reads on.
-#[derive(Clone, Copy)]
-enum Ending {
-    Whole,
-    Cut,
-    Deserted,
+impl From<Stopped> for Fault {
+    fn from(stopped: Stopped) -> Fault {
+        Fault::Stopped(stopped)
+    }
 }
 
 fn main(rt: HostRuntime) -> ExitCode {
-    for number in 1..files::end(&rt) {
-        match file(&rt, number) {
-            Ending::Whole => {}
-            Ending::Cut => return files::status(false),
-            Ending::Deserted => return files::status(true),
-        }
-    }
-    files::status(false)
+    let program = Program {
+        rt: &rt,
+        name: b"send",
+    };
+    files::status(send_all(&program))
 }
 
-// The file that an argument names. The answer says whether all of it was sent.
-fn file<R: System>(rt: &R, number: usize) -> Ending {
-    let mut name = [0u8; 4096];
-    let mut file = files::open(rt, b"send", number, &mut name);
-    if !files::is_open(&file) {
-        return Ending::Cut;
+// The files one behind the other, up to the first that is not sent whole.
+fn send_all<R: System>(program: &Program<R>) -> Result<(), Stopped> {
+    for number in 1..program.end() {
+        let mut name = [0; 4096];
+        let Some(mut file) = program.open(number, &mut name) else {
+            return Err(Stopped::Cut);
+        };
+        send(program, &mut file)?;
     }
-    let n = file.named;
-    let whole = head(rt, &mut file, &name[0..n]);
-    files::close(file);
-    whole
+    Ok(())
 }
 
-// What a file has before its records: the settings octet, the width behind a W where there is one, and the limit. The answer says whether all
-// of the file was sent.
-fn head<R: System, F: Read, I: Read>(rt: &R, file: &mut File<F, I>, name: &[u8]) -> Ending {
-    let settings = octet(file);
-    if !has_read(settings.got) {
-        return missing(
-            rt,
-            settings.got,
-            name,
-            b"it is empty, there is no settings octet\n",
-        );
-    }
-    let next = octet(file);
-    if has_read(next.got) & (next.octet == b'W') {
-        let width = octet(file);
-        if !has_read(width.got) {
-            return missing(
-                rt,
-                width.got,
-                name,
-                b"it is cut short, there is no width behind its W\n",
-            );
-        }
-        let behind = octet(file);
-        return behind_width(rt, file, settings.octet, width.octet, behind, 3, name);
-    }
-    behind_width(rt, file, settings.octet, 16, next, 1, name)
+// A file, by a sender that is opened as its head says.
+fn send<R: System>(
+    program: &Program<R>,
+    file: &mut File<R::File, R::Reader>,
+) -> Result<(), Stopped> {
+    let head = match read_head(file) {
+        Ok(head) => head,
+        Err(fault) => return complain_of_head(program, file.name, fault),
+    };
+    let sender = match link::sender::open(head.settings) {
+        Ok(sender) => sender,
+        Err(error) => return complain_of_settings(program, file.name, head.settings, error),
+    };
+    let mut line = Line::new(program, sender, head.place);
+    line.send_records(file, Input::new(head.first))
+        .or_else(|fault| line.end(file.name, fault))
 }
 
-// What a file has behind the width: the limit behind an M where there is one. next: the octet at this place.
-fn behind_width<R: System, F: Read, I: Read>(
-    rt: &R,
-    file: &mut File<F, I>,
-    settings: u8,
-    width: u8,
-    next: OneOctet,
-    place: u64,
-    name: &[u8],
-) -> Ending
-    requires { place ≤ 3 }
-{
-    if has_read(next.got) & (next.octet == b'M') {
-        let high = octet(file);
-        if !has_read(high.got) {
-            return no_limit(rt, high.got, name);
-        }
-        let low = octet(file);
-        if !has_read(low.got) {
-            return no_limit(rt, low.got, name);
-        }
-        return open(
-            rt,
-            file,
-            Settings {
-                octet: settings,
-                width,
-                limit: number(high.octet, low.octet),
-            },
-            Start {
-                place: place + 3,
-                kept: 0,
-                first: 0,
-            },
-            name,
-        );
+// ---- what is before the records
+
+// The settings octet, the width behind a W where there is one, and the limit behind an M where there is one. Where the octet that may be one of these
+// letters cannot be read, the records' first read says so.
+fn read_head<F: Read, I: Read>(file: &mut File<F, I>) -> Result<Head, HeadFault> {
+    let octet = needed(file, b"it is empty, there is no settings octet\n")?;
+    let mut place = 1;
+    let mut first = read_octet(file).unwrap_or(None);
+    let mut width = 16;
+    if first == Some(b'W') {
+        width = needed(file, b"it is cut short, there is no width behind its W\n")?;
+        first = read_octet(file).unwrap_or(None);
+        place += 2;
     }
-    open(
-        rt,
-        file,
-        Settings {
-            octet: settings,
+    let mut limit = DEFAULT_LIMIT;
+    if first == Some(b'M') {
+        limit = u16::from_be_bytes([limit_octet(file)?, limit_octet(file)?]);
+        first = None;
+        place += 3;
+    }
+    Ok(Head {
+        settings: Settings {
+            octet,
             width,
-            limit: DEFAULT_LIMIT,
+            limit,
         },
-        Start {
-            place,
-            kept: read_one(next.got),
-            first: next.octet,
-        },
-        name,
+        place,
+        first,
+    })
+}
+
+fn limit_octet<F: Read, I: Read>(file: &mut File<F, I>) -> Result<u8, HeadFault> {
+    needed(
+        file,
+        b"it is cut short, there are no two octets of a limit behind its M\n",
     )
 }
 
-// Whether a read gave octets: it did not fail, nor was it at the end.
-fn has_read(got: io::Result<usize>) -> bool {
-    match got {
-        Ok(octets) => 0 < octets,
-        Err(_) => false,
-    }
-}
-
-// How many octets a read of one has read, 0 or 1.
-fn read_one(got: io::Result<usize>) -> usize
-    ensures { result ≤ 1 }
-{
-    if !has_read(got) {
-        return 0;
-    }
-    1
-}
-
-// The sender is opened, and the records are sent.
-fn open<R: System, F: Read, I: Read>(
-    rt: &R,
+// An octet that the file must have.
+fn needed<F: Read, I: Read>(
     file: &mut File<F, I>,
-    settings: Settings,
-    records: Start,
-    name: &[u8],
-) -> Ending
-    requires { records.kept ≤ 1 }
-{
-    let opening = link::sender::open(settings);
-    match opening {
-        Opening::Opened(sender) => {
-            let outcome = all(rt, file, sender, records);
-            told(rt, outcome, settings.limit, name)
-        }
-        Opening::Refused(n) => {
-            files::complain(rt, b"send", name);
-            if n == 23 {
-                say(rt, b"its limit is ");
-                say_number(rt, settings.limit as u64);
-                say(rt, b", not from 2 to 16384\n");
-            } else {
-                say(rt, b"its width is ");
-                say_number(rt, settings.width as u64);
-                say(rt, b", neither 16 nor 32\n");
-            }
-            Ending::Cut
-        }
+    missing: &'static [u8],
+) -> Result<u8, HeadFault> {
+    match read_octet(file) {
+        Ok(octet) => octet.ok_or(HeadFault::Missing(missing)),
+        Err(error) => Err(HeadFault::Unread(error)),
     }
 }
 
-// One octet, and what the read answered.
-fn octet<F: Read, I: Read>(file: &mut File<F, I>) -> OneOctet {
-    let mut octets = [0u8; 1];
-    let got = files::read(file, &mut octets);
-    OneOctet {
-        got,
-        octet: octets[0],
-    }
+// The next octet, or none at the file's end.
+fn read_octet<F: Read, I: Read>(file: &mut File<F, I>) -> io::Result<Option<u8>> {
+    let mut octets = [0];
+    let got = file.read(&mut octets)?;
+    Ok(octets[..got].first().copied())
 }
 
-// The line of a file's records.
-fn all<R: System, F: Read, I: Read>(
-    rt: &R,
-    file: &mut File<F, I>,
-    sender: Sender,
-    from: Start,
-) -> Outcome
-    requires { from.kept ≤ 1 }
-{
-    let mut input = input_buffer();
-    let mut page = [0u8; 65536];
-    let mut low = lane_buffer();
-    let mut high = lane_buffer();
-    let mut line = Line {
-        state: sender,
-        filled: 0,
-        on: true,
-        deserted: false,
-    };
-    input[0] = from.first;
-    let mut kept = from.kept;
-    let mut records = 0u64;
-    let mut octets = from.place;
-    let mut fault = Fault::Nothing;
-    let mut reads = u64::MAX;
-    while reads > 0 {
-        let rest = read(
-            rt, file, line, kept, &mut input, &mut low, &mut high, &mut page,
-        );
-        line = rest.line;
-        fault = rest.fault;
-        kept = rest.kept;
-        records = records.wrapping_add(rest.records as u64);
-        octets = octets.wrapping_add(rest.used as u64);
-        if rest.over {
-            break;
-        }
-        reads -= 1;
-    }
-    Outcome {
-        fault,
-        records,
-        octets,
-        written: line.on,
-        deserted: line.deserted,
-    }
-}
+// ---- the records
 
-// Room for the longest record, 65,540 octets, and more.
-fn input_buffer() -> [u8; 131072]
-    ensures { 131072 ≡ length result }
-{
-    [0; 131072]
-}
-
-// Room for the frame of a packet of the largest limit, 16,384 octets, with 32 bits.
-fn lane_buffer() -> [u8; 16388]
-    ensures { 16388 ≡ length result }
-{
-    [0; 16388]
-}
-
-// A number is two octets, the high one first.
-fn number(high: u8, low: u8) -> u16 {
-    256 * (high as u16) + low as u16
-}
-
-// ---- the input
-
-// One read, and the records that are whole with it.
-fn read<R: System, F: Read, I: Read>(
-    rt: &R,
-    file: &mut File<F, I>,
-    line: Line,
+// What is read of a file's records, and not yet taken: there is room for the longest, 65,540 octets, and more.
+#[derive(Drop)]
+struct Input {
+    octets: [u8; 131072],
     kept: usize,
-    input: &mut [u8],
-    low: &mut [u8],
-    high: &mut [u8],
-    page: &mut [u8],
-) -> Rest
-    requires { (line.filled < length page.old) × (kept ≤ length input.old) }
-    ensures { (result.line.filled < length page.new) × (result.kept ≤ length input.new) }
+    ghost within: { kept ≤ 131072 },
+}
+
+impl Input {
+    fn new(first: Option<u8>) -> Input {
+        let mut octets = [0; 131072];
+        match first {
+            Some(octet) => {
+                octets[0] = octet;
+                Input { octets, kept: 1 }
+            }
+            None => Input { octets, kept: 0 },
+        }
+    }
+
+    // Reads on behind what is kept. The answer says whether something came.
+    fn read<F: Read, I: Read>(&mut self, file: &mut File<F, I>) -> io::Result<bool> {
+        let got = file.read(&mut self.octets[self.kept..])?;
+        self.kept += got;
+        Ok(0 < got)
+    }
+
+    // Takes the first n octets.
+    fn take(&mut self, n: usize)
+        requires { n ≤ self.old.kept }
+    {
+        self.octets.copy_within(n..self.kept, 0);
+        self.kept -= n;
+    }
+}
+
+// The first record of a stretch, and what is behind it; none where it is not whole.
+fn split_record(octets: &[u8]) -> Option<(Record<'_>, &[u8])>
+    ensures { IfSome result (λ split. length split.1.now < length octets.now) }
 {
-    let came = more(file, kept, input);
-    if !has_read(came.got) {
-        let over = finish(rt, line, came.got, kept, low, high, page);
-        let after = over.line;
-        let fault = over.fault;
-        return Rest {
-            line: after,
-            fault,
+    let [lane, wait_high, wait_low, high, low, behind @ ..] = octets else {
+        return None;
+    };
+    let length = u16::from_be_bytes([*high, *low]) as usize;
+    let (packet, rest) = behind.split_at_checked(length)?;
+    let record = Record {
+        lane: *lane,
+        wait: u16::from_be_bytes([*wait_high, *wait_low]) as usize,
+        packet,
+    };
+    Some((record, rest))
+}
+
+// ---- the line
+
+// A sender with its two lanes, each with room for the frame of a packet of the largest limit, 16,384 octets, with 32 bits; the octets on the page that
+// are still to be written; and how many records were sent, and where in the file the next one begins.
+#[derive(Drop)]
+struct Line<'a, R> {
+    program: &'a Program<'a, R>,
+    state: Sender,
+    low: [u8; 16388],
+    high: [u8; 16388],
+    page: [u8; 65536],
+    filled: usize,
+    records: u64,
+    place: u64,
+    ghost room: { filled < 65536 },
+}
+
+impl<'a, R: System> Line<'a, R> {
+    fn new(program: &'a Program<'a, R>, state: Sender, place: u64) -> Line<'a, R> {
+        Line {
+            program,
+            state,
+            low: [0; 16388],
+            high: [0; 16388],
+            page: [0; 65536],
+            filled: 0,
             records: 0,
-            used: 0,
-            kept: 0,
-            over: true,
+            place,
+        }
+    }
+
+    // The records of a file, and at its end what the sender holds.
+    fn send_records(
+        &mut self,
+        file: &mut File<R::File, R::Reader>,
+        mut input: Input,
+    ) -> Result<(), Fault> {
+        // Counted, since nothing says how often a file can be read.
+        for _ in 0..u64::MAX {
+            if !input.read(file).map_err(Fault::Unread)? {
+                break;
+            }
+            let used = self.carry_out_all(&input.octets[..input.kept])?;
+            input.take(used);
+        }
+        if 0 < input.kept {
+            return Err(Fault::CutShort);
+        }
+        self.send(usize::MAX)?;
+        self.print(self.filled)?;
+        Ok(())
+    }
+
+    // The records of a stretch that are whole. The answer says how many octets they take.
+    fn carry_out_all(&mut self, octets: &[u8]) -> Result<usize, Fault>
+        ensures { IfOk result (λ used. used ≤ length octets.now) }
+    {
+        let mut left = octets;
+        while let Some((record, rest)) = split_record(left) {
+            self.carry_out(record)?;
+            self.records = self.records.wrapping_add(1);
+            self.place = self.place.wrapping_add((left.len() - rest.len()) as u64);
+            left = rest;
+        }
+        Ok(octets.len() - left.len())
+    }
+
+    // Up to WAIT octets, then further ones while the lane holds a packet; then the record's own is loaded.
+    fn carry_out(&mut self, record: Record) -> Result<(), Fault> {
+        let lane = match record.lane {
+            b'L' => Lane::Low,
+            b'H' => Lane::High,
+            _ => return Err(Fault::WrongLane),
         };
+        self.send(record.wait)?;
+        self.clear(lane)?;
+        self.load(lane, record.packet)
     }
-    let n = came.octets;
-    let taken = records(rt, line, &input[0..n], low, high, page);
-    rest_of(taken, n, input)
-}
 
-fn more<F: Read, I: Read>(file: &mut File<F, I>, kept: usize, input: &mut [u8]) -> Came
-    requires { kept ≤ length input.old }
-    ensures { result.octets ≤ length input.new }
-{
-    let got = files::read(file, &mut input[kept..]);
-    let octets = match got {
-        Ok(more) => kept + more,
-        Err(_) => kept,
-    };
-    Came { got, octets }
-}
-
-// What is left of the first n octets of the input, behind the records taken of them, goes to its start.
-fn rest_of(taken: Taken, n: usize, input: &mut [u8]) -> Rest
-    requires { (taken.used ≤ n) × (n ≤ length input.old) }
-    ensures { (result.line.filled ≤ taken.line.filled) × (result.kept ≤ length input.new) }
-{
-    let after = taken.line;
-    let fault = taken.fault;
-    let kept = keep(taken.used, n, input);
-    Rest {
-        line: after,
-        fault,
-        records: taken.records,
-        used: taken.used,
-        kept,
-        over: !after.on,
-    }
-}
-
-// The end of the input: what the sender holds is sent.
-fn finish<R: System>(
-    rt: &R,
-    line: Line,
-    got: io::Result<usize>,
-    kept: usize,
-    low: &[u8],
-    high: &[u8],
-    page: &mut [u8],
-) -> Carried
-    requires { line.filled < length page.old }
-    ensures { result.line.filled < length page.new }
-{
-    if let Err(error) = got {
-        return stop(rt, line, Fault::Unread(error), page);
-    }
-    if 0 < kept {
-        return stop(rt, line, Fault::CutShort, page);
-    }
-    let idle = send(rt, line, 0xffff_ffff_ffff_ffff, low, high, page);
-    let written = write_out(rt, idle, page);
-    Carried {
-        line: written,
-        fault: Fault::Nothing,
-    }
-}
-
-// The octets from a place on are moved to the input's start.
-fn keep(from: usize, to: usize, input: &mut [u8]) -> usize
-    requires { (from ≤ to) × (to ≤ length input.old) }
-    ensures { result ≤ length input.new }
-{
-    let mut i = 0usize;
-    while i < to - from {
-        input[i] = input[from + i];
-        i += 1;
-    }
-    i
-}
-
-// The records of a stretch of input, up to the first that is not whole or has a fault.
-fn records<R: System>(
-    rt: &R,
-    line: Line,
-    octets: &[u8],
-    low: &mut [u8],
-    high: &mut [u8],
-    page: &mut [u8],
-) -> Taken
-    requires { line.filled < length page.old }
-    ensures { (result.line.filled < length page.new) × (result.used ≤ length octets.now) }
-{
-    let mut end = line;
-    let mut fault = Fault::Nothing;
-    let mut whole = 0usize;
-    let mut at = 0usize;
-    while at < octets.len() {
-        let taken = record(rt, end, &octets[at..], low, high, page);
-        end = taken.line;
-        fault = taken.fault;
-        let used = taken.used;
-        if used == 0 {
-            break;
-        }
-        whole += 1;
-        at += used;
-    }
-    Taken {
-        line: end,
-        fault,
-        records: whole,
-        used: at,
-    }
-}
-
-// The first record of a stretch; no octet is used where it is not whole or has a fault.
-fn record<R: System>(
-    rt: &R,
-    line: Line,
-    octets: &[u8],
-    low: &mut [u8],
-    high: &mut [u8],
-    page: &mut [u8],
-) -> Taken
-    requires { line.filled < length page.old }
-    ensures { (result.line.filled < length page.new) × (result.used ≤ length octets.now) }
-{
-    if octets.len() < HEAD {
-        return not_taken(line, Fault::Nothing);
-    }
-    let used = HEAD + number(octets[3], octets[4]) as usize;
-    if octets.len() < used {
-        return not_taken(line, Fault::Nothing);
-    }
-    let wait = number(octets[1], octets[2]) as usize;
-    let carried = carry_out(
-        rt,
-        line,
-        octets[0],
-        wait,
-        &octets[HEAD..used],
-        low,
-        high,
-        page,
-    );
-    let after = carried.line;
-    let fault = carried.fault;
-    if !after.on {
-        return not_taken(after, fault);
-    }
-    Taken {
-        line: after,
-        fault,
-        records: 1,
-        used,
-    }
-}
-
-// A record, with its lane octet.
-fn carry_out<R: System>(
-    rt: &R,
-    line: Line,
-    lane: u8,
-    wait: usize,
-    packet: &[u8],
-    low: &mut [u8],
-    high: &mut [u8],
-    page: &mut [u8],
-) -> Carried
-    requires { line.filled < length page.old }
-    ensures { result.line.filled < length page.new }
-{
-    match lane {
-        b'L' => {
-            let free = make_way(rt, line, Lane::Low, wait, low, high, page);
-            load(rt, free, Lane::Low, packet, low, page)
-        }
-        b'H' => {
-            let free = make_way(rt, line, Lane::High, wait, low, high, page);
-            load(rt, free, Lane::High, packet, high, page)
-        }
-        _ => stop(rt, line, Fault::WrongLane, page),
-    }
-}
-
-fn load<R: System>(
-    rt: &R,
-    line: Line,
-    lane: Lane,
-    packet: &[u8],
-    area: &mut [u8],
-    page: &[u8],
-) -> Carried
-    requires { line.filled < length page.now }
-    ensures { result.line.filled < length page.now }
-{
-    if !line.on {
-        return Carried {
-            line,
-            fault: Fault::Nothing,
+    // A call in each arm: the borrow checker covers no area that a `match` picks.
+    fn load(&mut self, lane: Lane, packet: &[u8]) -> Result<(), Fault> {
+        let loaded = match lane {
+            Lane::Low => self.state.load(lane, packet, &mut self.low),
+            Lane::High => self.state.load(lane, packet, &mut self.high),
         };
+        loaded.map_err(|_| Fault::Refused)
     }
-    let loaded = line.state.load(lane, packet, area);
-    let state = loaded.state;
-    let answer = loaded.answer;
-    match answer {
-        LoadAnswer::Done => {
-            let after = Line {
-                state,
-                filled: line.filled,
-                on: true,
-                deserted: false,
-            };
-            Carried {
-                line: after,
-                fault: Fault::Nothing,
+
+    // Up to so many octets; fewer if the sender gets idle. What is left goes down by what was sent, so no range fits.
+    fn send(&mut self, most: usize) -> Result<(), Stopped> {
+        let mut left = most;
+        while 0 < left {
+            let octets = self.go_on(left)?;
+            if octets == 0 {
+                break;
+            }
+            left -= octets;
+        }
+        Ok(())
+    }
+
+    // Octets while the lane holds a packet: it is free behind a flag. Counted, as the reads are.
+    fn clear(&mut self, lane: Lane) -> Result<(), Stopped> {
+        for _ in 0..u64::MAX {
+            if !self.holds(lane) || self.go_on(usize::MAX)? == 0 {
+                break;
             }
         }
-        LoadAnswer::Refused(_) => stop(rt, line, Fault::Refused, page),
+        Ok(())
     }
-}
 
-// ---- the output
-
-// Up to `wait` octets, then further ones while the lane holds a packet.
-fn make_way<R: System>(
-    rt: &R,
-    line: Line,
-    lane: Lane,
-    wait: usize,
-    low: &[u8],
-    high: &[u8],
-    page: &mut [u8],
-) -> Line
-    requires { line.filled < length page.old }
-    ensures { result.filled < length page.new }
-{
-    let waited = send(rt, line, wait, low, high, page);
-    clear(rt, waited, lane, low, high, page)
-}
-
-// Up to so many octets; fewer if the sender gets idle.
-fn send<R: System>(
-    rt: &R,
-    line: Line,
-    most: usize,
-    low: &[u8],
-    high: &[u8],
-    page: &mut [u8],
-) -> Line
-    requires { line.filled < length page.old }
-    ensures { result.filled < length page.new }
-{
-    let mut end = line;
-    let mut left = most;
-    while left > 0 {
-        let step = go_on(rt, end, left, low, high, page);
-        end = step.line;
-        if step.octets == 0 {
-            break;
+    fn holds(&self, lane: Lane) -> bool {
+        match lane {
+            Lane::Low => 0 < self.state.low.length,
+            Lane::High => 0 < self.state.high.length,
         }
-        left -= step.octets;
     }
-    end
-}
 
-fn holds(state: Sender, lane: Lane) -> bool {
-    match lane {
-        Lane::Low => 0 < state.low.length,
-        Lane::High => 0 < state.high.length,
-    }
-}
-
-// Octets while the lane holds a packet: it is free behind a flag.
-fn clear<R: System>(
-    rt: &R,
-    line: Line,
-    lane: Lane,
-    low: &[u8],
-    high: &[u8],
-    page: &mut [u8],
-) -> Line
-    requires { line.filled < length page.old }
-    ensures { result.filled < length page.new }
-{
-    let mut end = line;
-    let mut steps = u64::MAX;
-    while steps > 0 {
-        let state = end.state;
-        if !holds(state, lane) {
-            break;
-        }
-        let step = go_on(rt, end, 0xffff_ffff_ffff_ffff, low, high, page);
-        end = step.line;
-        if step.octets == 0 {
-            break;
-        }
-        steps -= 1;
-    }
-    end
-}
-
-// Up to so many octets, no further than to a flag or to the page's end; none if the sender is idle.
-fn go_on<R: System>(
-    rt: &R,
-    line: Line,
-    most: usize,
-    low: &[u8],
-    high: &[u8],
-    page: &mut [u8],
-) -> Step
-    requires { line.filled < length page.old }
-    ensures { (result.line.filled < length page.new) × (result.octets ≤ most) }
-{
-    if !line.on {
-        return Step { line, octets: 0 };
-    }
-    let filled = line.filled;
-    let end = filled + cobs::lesser(most, page.len() - filled);
-    let written = writer::write_on(line.state, low, high, &mut page[filled..end]);
-    let state = written.state;
-    let octets = written.filled;
-    let after = Line {
-        state,
-        filled: filled + octets,
-        on: true,
-        deserted: false,
-    };
-    let next = turn(rt, after, page);
-    Step { line: next, octets }
-}
-
-// A full page is written out.
-fn turn<R: System>(rt: &R, line: Line, page: &[u8]) -> Line
-    requires { (line.filled ≤ length page.now) × (0 < length page.now) }
-    ensures { result.filled < length page.now }
-{
-    if line.filled < page.len() {
-        return line;
-    }
-    write_out(rt, line, page)
-}
-
-// The page is written to standard output, or complained of.
-fn write_out<R: System>(rt: &R, line: Line, page: &[u8]) -> Line
-    requires { line.filled ≤ length page.now }
-    ensures { result.filled ≤ 0 }
-{
-    let mut fresh = line;
-    fresh.filled = 0;
-    let filled = line.filled;
-    if let Err(error) = rt.write_all(&page[0..filled]) {
-        files::unwritten(rt, b"send", error);
-        fresh.on = false;
-        fresh.deserted = files::is_deserted(error);
-    }
-    fresh
-}
-
-// The line at a fault: what was sent before it is written, and nothing more is sent.
-fn stop<R: System>(rt: &R, line: Line, fault: Fault, page: &[u8]) -> Carried
-    requires { line.filled ≤ length page.now }
-    ensures { result.line.filled ≤ 0 }
-{
-    let mut over = write_out(rt, line, page);
-    over.on = false;
-    Carried { line: over, fault }
-}
-
-fn not_taken(line: Line, fault: Fault) -> Taken
-    ensures { (result.line.filled ≤ line.filled) × (result.used ≤ 0) }
-{
-    Taken {
-        line,
-        fault,
-        records: 0,
-        used: 0,
-    }
-}
-
-// ---- messages
-
-fn say<R: System>(rt: &R, words: &[u8]) {
-    let _ = rt.errors().write_all(words);
-}
-
-fn say_number<R: System>(rt: &R, n: u64) {
-    let _ = rt.errors().print(n);
-}
-
-// How a message about a record begins. The first record is number 1, the first octet of the file is at place 0.
-fn complain<R: System>(rt: &R, name: &[u8], records: u64, octets: u64) {
-    files::complain(rt, b"send", name);
-    say(rt, b"record ");
-    say_number(rt, records.wrapping_add(1));
-    say(rt, b", at octet ");
-    say_number(rt, octets);
-    say(rt, b": ");
-}
-
-// A message about a fault. The answer says that all was sent and written.
-fn told<R: System>(rt: &R, outcome: Outcome, limit: u16, name: &[u8]) -> Ending {
-    if outcome.deserted {
-        return Ending::Deserted;
-    }
-    let fault = outcome.fault;
-    match fault {
-        Fault::Nothing => if outcome.written {
-            Ending::Whole
+    // Up to so many octets, no further than to a flag or to the page's end; none if the sender is idle. A full page is written out.
+    fn go_on(&mut self, most: usize) -> Result<usize, Stopped>
+        ensures { IfOk result (λ octets. octets ≤ most) }
+    {
+        let end = self.filled + most.min(self.page.len() - self.filled);
+        // lent ahead of the state, as the borrow checker asks
+        let (low, high) = (&self.low, &self.high);
+        let line = &mut self.page[self.filled..end];
+        let octets = writer::write_on(&mut self.state, low, high, line);
+        let filled = self.filled + octets;
+        if filled < self.page.len() {
+            self.filled = filled;
         } else {
-            Ending::Cut
-        },
-        Fault::Unread(error) => {
-            complain(rt, name, outcome.records, outcome.octets);
-            files::give_reason(rt, b"the file cannot be read further", error);
-            Ending::Cut
+            self.filled = 0;
+            self.print(filled)?;
         }
-        Fault::CutShort => {
-            complain(rt, name, outcome.records, outcome.octets);
-            say(rt, b"it is cut short, the file ends within it\n");
-            Ending::Cut
-        }
-        Fault::WrongLane => {
-            complain(rt, name, outcome.records, outcome.octets);
-            say(rt, b"its lane is neither L nor H\n");
-            Ending::Cut
-        }
-        Fault::Refused => {
-            complain(rt, name, outcome.records, outcome.octets);
-            say(rt, b"its packet has fewer than 2 or more than ");
-            say_number(rt, limit as u64);
-            say(rt, b" octets\n");
-            Ending::Cut
-        }
+        Ok(octets)
     }
+
+    // So many octets of the page are written to standard output, or that is complained of.
+    fn print(&self, filled: usize) -> Result<(), Stopped>
+        requires { filled ≤ 65536 }
+    {
+        let written = self.program.rt.write_all(&self.page[..filled]);
+        written.or_else(|error| self.program.stop(error))
+    }
+
+    // ---- messages
+
+    // The line ends at a fault, which is complained of.
+    fn end(&self, name: &[u8], fault: Fault) -> Result<(), Stopped> {
+        match fault {
+            Fault::Stopped(stopped) => return Err(stopped),
+            Fault::Unread(error) => {
+                self.complain(name)?;
+                self.program
+                    .give_reason(b"the file cannot be read further", error);
+            }
+            Fault::CutShort => {
+                self.complain(name)?;
+                self.program
+                    .say(b"it is cut short, the file ends within it\n");
+            }
+            Fault::WrongLane => {
+                self.complain(name)?;
+                self.program.say(b"its lane is neither L nor H\n");
+            }
+            Fault::Refused => {
+                self.complain(name)?;
+                self.program
+                    .say(b"its packet has fewer than 2 or more than ");
+                say_number(self.program, self.state.settings.limit as u64);
+                self.program.say(b" octets\n");
+            }
+        }
+        Err(Stopped::Cut)
+    }
+
+    // How a message about a record begins, behind what was sent before it. The first record is number 1, the first octet of the file is at place 0.
+    fn complain(&self, name: &[u8]) -> Result<(), Stopped> {
+        if let Err(Stopped::Deserted) = self.print(self.filled) {
+            return Err(Stopped::Deserted);
+        }
+        self.program.complain(name);
+        self.program.say(b"record ");
+        say_number(self.program, self.records.wrapping_add(1));
+        self.program.say(b", at octet ");
+        say_number(self.program, self.place);
+        self.program.say(b": ");
+        Ok(())
+    }
+}
+
+fn say_number<R: System>(program: &Program<R>, n: u64) {
+    let _ = program.rt.errors().print(n);
 }
 
 // A file that cannot be read, or ends, before its records.
-fn missing<R: System>(rt: &R, got: io::Result<usize>, name: &[u8], words: &[u8]) -> Ending {
-    if let Err(error) = got {
-        files::fail(rt, b"send", name, b"cannot be read", error);
-        return Ending::Cut;
+fn complain_of_head<R: System>(
+    program: &Program<R>,
+    name: &[u8],
+    fault: HeadFault,
+) -> Result<(), Stopped> {
+    match fault {
+        HeadFault::Unread(error) => program.fail(name, b"cannot be read", error),
+        HeadFault::Missing(words) => {
+            program.complain(name);
+            program.say(words);
+        }
     }
-    files::complain(rt, b"send", name);
-    say(rt, words);
-    Ending::Cut
+    Err(Stopped::Cut)
 }
 
-fn no_limit<R: System>(rt: &R, got: io::Result<usize>, name: &[u8]) -> Ending {
-    missing(
-        rt,
-        got,
-        name,
-        b"it is cut short, there are no two octets of a limit behind its M\n",
-    )
+// Settings that no sender is opened with.
+fn complain_of_settings<R: System>(
+    program: &Program<R>,
+    name: &[u8],
+    settings: Settings,
+    error: OpenError,
+) -> Result<(), Stopped> {
+    program.complain(name);
+    match error {
+        OpenError::Limit => {
+            program.say(b"its limit is ");
+            say_number(program, settings.limit as u64);
+            program.say(b", not from 2 to 16384\n");
+        }
+        OpenError::Width => {
+            program.say(b"its width is ");
+            say_number(program, settings.width as u64);
+            program.say(b", neither 16 nor 32\n");
+        }
+    }
+    Err(Stopped::Cut)
 }

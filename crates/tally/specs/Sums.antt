@@ -1,6 +1,6 @@
 -- What the counts come to (document 01, "Display, tally, capture program"), proved in proofs/Sums.antt. What is counted is said here apart
 -- from `place`, so that a place given to the wrong reports would not pass.
-use Rattle.std.specs.Prelude.{Bool, true, false, ◌&&◌, ◌||◌, ◌⊎◌, ◌≡◌, ℕ, ◌+◌, ◌^◌, ◌≤◌, ◌<◌, min, leb, eqb, length}
+use Rattle.std.specs.Prelude.{Bool, true, false, Option, Some, None, ◌&&◌, ◌||◌, ◌⊎◌, ◌≡◌, ℕ, ◌+◌, ◌^◌, ◌≤◌, ◌<◌, min, leb, eqb, length}
 use mathlib.Core.List.{List, [], ◌∷◌, foldl, sum}
 use Rattle.std.specs.Prelude.{if◌then◌else◌}
 use Rattle.link.specs.Answers.{Answer, done, octet, idle, quiet, packet, held, refused}
@@ -45,9 +45,14 @@ pub record FramesCounted : Type 0 where
   pub frames : (n : ℕ) → 5 ≤ n → (n ≤ 14) ⊎ (n ≡ 18) ⊎ (n ≡ 21) → is_counted (refused n) ≡ true
   pub calls : (n : ℕ) → n < 5 → is_counted (refused n) ≡ false
 
--- The refusal that a place is named by is the one that is counted there.
+-- whether a number is that of a refusal, if there is one
+abbrev pub is_of : ℕ → Option ℕ → Bool
+is_of n None = false
+is_of n (Some m) = eqb n m
+
+-- The refusal that a place is named by is the one that is counted there, and where none is named none is counted.
 abbrev pub NamedRightly : Type 0
-NamedRightly = (p n : ℕ) → 3 ≤ p → p < places → of_kind p (refused n) ≡ eqb n (refusal_at p)
+NamedRightly = (p n : ℕ) → of_kind p (refused n) ≡ is_of n (refusal_at p)
 
 -- a tally that the code can hold: fifteen counts, of 64 bits
 pub record Fits (t : Tally) : Type 0 where

@@ -2,9 +2,9 @@
 #![tactic(auto)]
 
 ghost use Rattle.std.specs.Prelude.{◌≡◌};
-ghost use Rattle.link.specs.Answers.{refused, report_answer};
-ghost use Rattle.tally.specs.Display.{front, shown, ShowsThePacket, WithinTheArea, BeyondTheArea};
-ghost use Rattle.tally.specs.Counts.{empty_tally, place, of_frame, refusal_at, raised, note};
+ghost use Rattle.link.specs.Answers.{report_answer};
+ghost use Rattle.tally.specs.Display.{shown, ShowsThePacket, WithinTheArea, BeyondTheArea};
+ghost use Rattle.tally.specs.Counts.{empty_tally, place, of_frame, refusal_at, note};
 ghost use Rattle.tally.specs.Sums.{FramesCounted, NamedRightly, LargestOf64Bits, EachCount, AddUp, FromEmpty};
 
 use link::receiver::Report;
@@ -16,29 +16,14 @@ use link::receiver::Report;
 pub fn shown<'a>(in_second: bool, n: u16, first: &'a [u8], second: &'a [u8]) -> &'a [u8]
     ensures { result.now ≡ shown in_second n first.now second.now }
 {
-    if in_second {
-        front(n, second)
-    } else {
-        front(n, first)
-    }
-}
-
-// The first n octets of one area, or none if it has fewer.
-fn front(n: u16, area: &[u8]) -> &[u8]
-    ensures { result.now ≡ front n area.now }
-{
-    let end = n as usize;
-    if end <= area.len() {
-        &area[0..end]
-    } else {
-        &area[0..0]
-    }
+    let area = if in_second { second } else { first };
+    area.get(..n as usize).unwrap_or(&[])
 }
 
 // ---- tally
 
-// The places of the counts: packets, held with nothing replaced, held with replacement, from REFUSALS on refusals 5 to 14 in order, 18 and
-// 21.
+// The places of the counts, numbers since document 01 wants an array: packets, held with nothing replaced, held with replacement, from REFUSALS
+// on refusals 5 to 14 in order, 18 and 21.
 const PACKETS: usize = 0;
 
 const HELD: usize = 1;
@@ -51,7 +36,7 @@ const ESCAPE_OPEN_PLACE: usize = 13;
 
 const CHANGED_PLACE: usize = 14;
 
-// How many counts there are. As a place it means that a report has no count.
+// How many counts there are.
 pub const COUNTS: usize = 15;
 
 // The refusals that are counted, those of frames: 5 to 14,
@@ -65,113 +50,77 @@ const ESCAPE_OPEN: u8 = 18;
 // and 21, of what was held and is changed.
 const CHANGED: u8 = 21;
 
-// A count at its largest stays.
-pub const LARGEST: u64 = 0xffff_ffff_ffff_ffff;
+// A count at its largest stays, and is told by this.
+pub const LARGEST: u64 = u64::MAX;
 
-#[derive(Clone, Copy)]
+#[derive(Clone, Copy, Debug, PartialEq, Eq)]
 pub struct Tally {
     pub counts: [u64; COUNTS],
 }
 
-// All counts 0.
-pub fn empty() -> Tally
-    ensures { result ≡ empty_tally }
-{
-    Tally {
-        counts: [0; COUNTS],
+// All counts 0. By hand, since a derive has no contract of its own.
+impl Default for Tally {
+    ghost is_default = { λ t. t ≡ empty_tally };
+
+    fn default() -> Tally {
+        Tally {
+            counts: [0; COUNTS],
+        }
+    }
+}
+
+impl Tally {
+    // A report noted: one count is raised, or none. By value, and below on a tally that is lent: the forms that document 01 names.
+    pub fn note(mut self, report: Report) -> Tally
+        ensures { result ≡ note self (report_answer report) }
+    {
+        if let Some(place) = place(report) {
+            self.counts[place] = self.counts[place].saturating_add(1);
+        }
+        self
+    }
+
+    // The same on a tally that is lent.
+    pub fn note_in(&mut self, report: Report)
+        ensures { self.new ≡ note self.old (report_answer report) }
+    {
+        *self = self.note(report);
     }
 }
 
 // Where a report is counted.
-fn place(r: Report) -> usize
-    ensures { result ≡ place (report_answer r) }
+fn place(report: Report) -> Option<usize>
+    ensures { result ≡ place (report_answer report) }
 {
-    match r {
-        Report::Quiet => COUNTS,
-        Report::Packet {
-            second: _,
-            length: _,
-        } => PACKETS,
-        Report::Held { count: _, replaced } => { if replaced { HELD_REPLACING } else { HELD } }
-        Report::Refused(n) => refusal_place(n),
+    match report {
+        Report::Packet { .. } => Some(PACKETS),
+        Report::Held { replaced, .. } => Some(if replaced { HELD_REPLACING } else { HELD }),
+        Report::Refused(n @ FIRST_REFUSAL..=LAST_REFUSAL) => Some(
+            REFUSALS + (n - FIRST_REFUSAL) as usize,
+        ),
+        Report::Refused(ESCAPE_OPEN) => Some(ESCAPE_OPEN_PLACE),
+        Report::Refused(CHANGED) => Some(CHANGED_PLACE),
+        Report::Quiet | Report::Refused(_) => None,
     }
-}
-
-// Where a refusal is.
-fn refusal_place(n: u8) -> usize
-    ensures { result ≡ place (refused n) }
-{
-    if n < FIRST_REFUSAL {
-        return COUNTS;
-    }
-    if n <= LAST_REFUSAL {
-        return REFUSALS + (n - FIRST_REFUSAL) as usize;
-    }
-    if n == ESCAPE_OPEN {
-        return ESCAPE_OPEN_PLACE;
-    }
-    if n == CHANGED {
-        return CHANGED_PLACE;
-    }
-    COUNTS
 }
 
 // Whether a refusal is one of a frame; any other is one of a call.
 pub fn of_frame(n: u8) -> bool
     ensures { result ≡ of_frame n }
 {
-    (FIRST_REFUSAL <= n) & (n <= LAST_REFUSAL) | (n == ESCAPE_OPEN) | (n == CHANGED)
+    matches!(n, FIRST_REFUSAL..=LAST_REFUSAL | ESCAPE_OPEN | CHANGED)
 }
 
-// The refusal that is counted at a place; 0 where none is.
-pub fn refusal_at(place: usize) -> u8
+// The refusal that is counted at a place.
+pub fn refusal_at(place: usize) -> Option<u8>
     ensures { result ≡ refusal_at place }
 {
-    if place < REFUSALS {
-        return 0;
+    match place {
+        REFUSALS..ESCAPE_OPEN_PLACE => Some((place - REFUSALS) as u8 + FIRST_REFUSAL),
+        ESCAPE_OPEN_PLACE => Some(ESCAPE_OPEN),
+        CHANGED_PLACE => Some(CHANGED),
+        _ => None,
     }
-    if place < ESCAPE_OPEN_PLACE {
-        return (place - REFUSALS) as u8 + FIRST_REFUSAL;
-    }
-    if place == ESCAPE_OPEN_PLACE {
-        return ESCAPE_OPEN;
-    }
-    if place == CHANGED_PLACE {
-        return CHANGED;
-    }
-    0
-}
-
-// A count raised by one.
-fn raised(n: u64) -> u64
-    ensures { result ≡ raised n }
-{
-    if LARGEST <= n {
-        return n;
-    }
-    n + 1
-}
-
-// A report noted: one count is raised, or none.
-pub fn note(t: Tally, r: Report) -> Tally
-    ensures { result ≡ note t (report_answer r) }
-{
-    let p = place(r);
-    if COUNTS <= p {
-        return t;
-    }
-    let n = t.counts[p];
-    let m = raised(n);
-    let mut next = t;
-    next.counts[p] = m;
-    next
-}
-
-// The same on a tally that is lent.
-pub fn note_in(t: &mut Tally, r: Report)
-    ensures { t.new ≡ note t.old (report_answer r) }
-{
-    *t = note(*t, r);
 }
 
 // ---- claims

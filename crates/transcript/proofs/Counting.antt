@@ -1,11 +1,11 @@
--- The reports of a stretch, noted reading by reading. `i` octets of the stretch are used.
+-- The reports of a stretch, noted reading by reading.
 use mathlib.Core.Path.{◌≡◌, refl, sym}
 use mathlib.Core.Bool.{Bool, true, false}
-use mathlib.Core.List.{List, ◌∷◌}
-use Prim.Native.Nat.{ℕ, ◌+◌, ◌-◌, ◌≤◌}
+use mathlib.Core.List.{List, [], ◌∷◌}
+use Prim.Native.Nat.{ℕ, ◌-◌}
+use native.Mathlib.Omega.{arith}
 use borrow.Author.Rules.{part_to_end}
-use lib.ListN.{length, take, drop, drop_of_length-le}
-use lib.Seq.{drop-drop}
+use lib.ListN.{length, take, drop}
 use Rattle.std.specs.Prelude.{if◌then◌else◌}
 use Rattle.link.specs.Receiver.{ReceiverEnd, Receive}
 use Rattle.link.specs.Runs.{receives, received, not_quiet}
@@ -29,27 +29,28 @@ first-noted t r rest hs false q p =
     let k : last_call r ∷ rest ≡ hs = simp q at p in
     rw (← k)
 
-module _ (e : ReceiverEnd) (xs : List ℕ) (i : ℕ) where
-  -- a reading of the rest, as the code takes it
-  module _ (r : Reach) (p : r ≡ read_on e (take (length xs - i) (drop i xs))) where
-    pub noted-on : (t : Tally) → noted t (reports e (drop i xs)) ≡ noted (note t r.report) (reports r.after (drop (i + r.used) xs))
+module _ (e : ReceiverEnd) (xs : List ℕ) where
+  -- a reading, and what is left, as the code takes it
+  module _ (r : Reach) (p : r ≡ read_on e xs) where
+    abbrev left : List ℕ
+    left = take (length xs - r.used) (drop r.used xs)
+
+    pub noted-on : (t : Tally) → noted t (reports e xs) ≡ noted (note t r.report) (reports r.after left)
     noted-on t =
-        let ys = drop i xs in
-        let s = read_on e ys in
-        rw (p, part_to_end xs i, ← drop-drop s.used i xs)
-        (first-noted t s _ _ (is_quiet s.report) refl (told e ys s (is_quiet s.report) refl (as-the-calls e ys) (first-then-rest e ys)))
+        let s = read_on e xs in
+        rw (part_to_end xs, p)
+        (first-noted t s _ _ (is_quiet s.report) refl (told e xs s (is_quiet s.report) refl (as-the-calls e xs) (first-then-rest e xs)))
 
-    pub received-on : received e (drop i xs) ≡ received r.after (drop (i + r.used) xs)
-    received-on =
-        let ys = drop i xs in
-        let s = read_on e ys in
-        rw (p, part_to_end xs i, ← drop-drop s.used i xs) (sym (goes_through e ys s (as-the-calls e ys)))
+    pub received-on : received e xs ≡ received r.after left
+    received-on = let s = read_on e xs in rw (part_to_end xs, p) (sym (goes_through e xs s (as-the-calls e xs)))
 
-  -- all octets are used
-  pub noted-all : length xs ≤ i → (t : Tally) → noted t (reports e (drop i xs)) ≡ t
-  unfolding receives not_quiet
-  noted-all h t = rw (drop_of_length-le xs h)
+-- nothing is left
+pub noted-none : (e : ReceiverEnd) (xs : List ℕ) → length xs ≡ 0 → (t : Tally) → noted t (reports e xs) ≡ t
+unfolding receives not_quiet
+noted-none e [] p t = refl
+noted-none e (x ∷ xs) p t = absurd (omega arith)
 
-  pub received-all : length xs ≤ i → received e (drop i xs) ≡ e
-  unfolding received
-  received-all h = rw (drop_of_length-le xs h)
+pub received-none : (e : ReceiverEnd) (xs : List ℕ) → length xs ≡ 0 → received e xs ≡ e
+unfolding received
+received-none e [] p = refl
+received-none e (x ∷ xs) p = absurd (omega arith)

@@ -152,6 +152,27 @@ unfolding received
 settings-received e [] = refl
 settings-received e (x ∷ xs) = settings-received (receive e x).after xs ∙ settings-stay.receive e x
 
+-- what holds of the numbers of a page printed, and of the settings
+pub record Bounds (e : ReceiverEnd) (xs page : List ℕ) (t : Transcript) : Type 0 where
+  pub most : t.used ≤ length xs
+  pub filled : t.page.filled ≤ length page
+  pub least : 0 < length xs → longest_line e.state.settings ≤ length page → 1 ≤ t.used
+  pub settings : t.after.state.settings ≡ e.state.settings
+
+pub within-bounds : (e : ReceiverEnd) (xs page : List ℕ) (t : Transcript) → t ≡ print e xs page → Bounds e xs page t
+within-bounds e xs page t q =
+    let p = print e xs page in
+    let k = goes e xs (record { area = page; filled = 0 }) (omega arith) in
+    let ls = lines_of (not_quiet_calls e (take p.used xs)) in
+    let n : p.page.filled ≡ length ls = ap (λ (r : Page). r.filled) (k.page ∙ written page 0 ls k.room) ∙ zero-add (length ls) in
+    rw q
+    (record {
+      most = k.most;
+      filled = omega (arith, n, k.room);
+      least = λ l r. k.least l (omega (arith, r));
+      settings = ap (λ (f : ReceiverEnd). f.state.settings) k.after ∙ settings-received e (take p.used xs);
+    })
+
 lines-append : (hs ks : List Receive) → lines_of (hs ++ ks) ≡ lines_of hs ++ lines_of ks
 unfolding lines_of flat_map
 lines-append [] ks = refl

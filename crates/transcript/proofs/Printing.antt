@@ -1,15 +1,14 @@
--- The lines of a stretch, put on the page reading by reading. `i` octets of the stretch are used.
+-- The lines of a stretch, put on the page reading by reading.
 use mathlib.Core.Path.{◌≡◌, refl, sym, ap, ◌∙◌}
 use mathlib.Core.Bool.{Bool, true, false}
 use mathlib.Core.List.{List, [], ◌∷◌}
 use Prim.Native.Nat.{ℕ, suc, ◌+◌, ◌-◌, ◌≤◌, ◌<◌}
-use native.Mathlib.Nat.{zero-add, add-zero, add_assoc}
+use native.Mathlib.Nat.{add-zero, add_assoc}
 use native.Mathlib.Numerals.{one-add}
 use native.Mathlib.Omega.{arith}
 use borrow.Author.Tests.{lt-ltb, le-ltb}
 use borrow.Author.Rules.{part_to_end}
-use lib.ListN.{length, take, drop, drop_of_length-le}
-use lib.Seq.{drop-drop}
+use lib.ListN.{length, take, drop, length-drop}
 use Rattle.link.specs.Answers.{quiet, is_quiet}
 use Rattle.link.specs.Receiver.{ReceiverEnd, Receive, receive}
 use Rattle.link.proofs.EachCall.{settings-stay}
@@ -79,26 +78,26 @@ settings-reached e xs r k = ap (λ (s : Reach). s.after.state.settings) k ∙ se
 -- ---- the loop
 
 module _ (e : ReceiverEnd) (xs : List ℕ) (p : Page) where
-  pub begins : print_on e xs p ≡ printed_after 0 (print_on e (drop 0 xs) p)
-  begins = ap (having (print_on e xs p)) (sym (zero-add (print_on e xs p).used))
-
-  -- a reading of the rest, as the code takes it, and the page with its line
-  pub goes_on : (i : ℕ) (r : Reach) (q : Page) → r ≡ read_on e (take (length xs - i) (drop i xs)) → q ≡ append p (line_of (last_call r))
+  -- of m octets xs are left; a reading of them, as the code takes it, and the page with its line
+  pub goes_on : (m : ℕ) (r : Reach) (q : Page) → length xs ≤ m → r ≡ read_on e xs → q ≡ append p (line_of (last_call r))
       → p.filled + longest_line e.state.settings ≤ length p.area
-      → printed_after i (print_on e (drop i xs) p) ≡ printed_after (i + r.used) (print_on r.after (drop (i + r.used) xs) q)
-  goes_on i r q k l room =
-      let s = read_on e (drop i xs) in
-      rw (l, k, part_to_end xs i, ← drop-drop s.used i xs) (ap (printed_after i) (one-reading p e (drop i xs) room) ∙ behind-behind i s.used _)
+      → r.used ≤ length xs
+      → (let left = take (length xs - r.used) (drop r.used xs) in printed_after (m - length xs) (print_on e xs p) ≡ printed_after (m - length left) (print_on r.after left q))
+  goes_on m r q h k l room u =
+      let n : m - length xs + r.used ≡ m - length (drop r.used xs) = omega (arith, length-drop r.used xs) in
+      rw (part_to_end xs r.used, l, ← n, k) (ap (printed_after (m - length xs)) (one-reading p e xs room) ∙ behind-behind (m - length xs) (read_on e xs).used _)
 
-  pub is-used : (i : ℕ) → length xs ≤ i → printed_after i (print_on e (drop i xs) p) ≡ record { after = e; page = p; used = i }
-  unfolding print_on
-  is-used i h = rw (drop_of_length-le xs h, add-zero i)
+-- all octets are used
+pub is-used : (e : ReceiverEnd) (xs : List ℕ) (p : Page) (n : ℕ) → length xs ≡ 0 → printed_after n (print_on e xs p) ≡ record { after = e; page = p; used = n }
+unfolding print_on
+is-used e [] p n h = rw add-zero
+is-used e (x ∷ xs) p n h = absurd (omega arith)
 
 full : (e : ReceiverEnd) (xs : List ℕ) (p : Page) → length p.area < p.filled + longest_line e.state.settings → print_on e xs p ≡ record { after = e; page = p; used = 0 }
 unfolding print_on
 full e [] p h = refl
 full e (x ∷ xs) p h = rw (lt-ltb _ _ h)
 
-pub is-full : (e : ReceiverEnd) (xs : List ℕ) (p : Page) (i : ℕ) → length p.area < p.filled + longest_line e.state.settings
-    → printed_after i (print_on e (drop i xs) p) ≡ record { after = e; page = p; used = i }
-is-full e xs p i h = rw (full e (drop i xs) p h, add-zero i)
+pub is-full : (e : ReceiverEnd) (xs : List ℕ) (p : Page) (n : ℕ) → length p.area < p.filled + longest_line e.state.settings
+    → printed_after n (print_on e xs p) ≡ record { after = e; page = p; used = n }
+is-full e xs p n h = rw (full e xs p h, add-zero n)

@@ -1,6 +1,6 @@
 // The check sequence's vectors: document 01, "Check sequence", "Marked frames and false friends" and refusal 14; RFC 1662, C.1 to C.3.
 // A register is shown high octet first.
-use crate::answers::{Answers, none, push, push_all};
+use crate::answers::Answers;
 use crate::rows;
 use crate::rows::Row;
 use std::io::Print;
@@ -74,50 +74,19 @@ pub(crate) fn run<R: Print>(rt: &R) {
     );
 }
 
-pub(crate) fn answer(row: Row, octets: &[u8]) -> Answers {
-    let asked = row.asked;
-    match asked {
+// A letter for each width: the rows have no width of their own here.
+pub(crate) fn answer(row: &Row) -> Answers {
+    let octets = row.given;
+    match row.asked {
         // A register of 0 fed the octet i is entry i.
-        b'e' => {
-            let place = [row.settings];
-            high_first(fcs::pppfcs16(0, &place))
-        }
-        b'E' => {
-            let place = [row.settings];
-            high_first32(fcs::pppfcs32(0, &place))
-        }
-        b'F' => {
-            let sequence = fcs::fcs32(octets);
-            push_all(none(), &sequence)
-        }
-        b'N' => high_first32(!fcs::register32(octets)),
-        b'Q' => high_first32(fcs::register32(octets)),
-        b'G' => push(none(), fcs::good32(octets) as u8),
-        b'f' => {
-            let sequence = fcs::fcs16(octets);
-            push_all(none(), &sequence)
-        }
-        b'r' => high_first(fcs::register16(octets)),
-        _ => push(none(), fcs::good16(octets) as u8),
+        b'e' => Answers::of(&fcs::pppfcs16(0, &[row.settings]).to_be_bytes()),
+        b'E' => Answers::of(&fcs::pppfcs32(0, &[row.settings]).to_be_bytes()),
+        b'F' => Answers::of(&fcs::fcs::<u32>(octets)),
+        b'N' => Answers::of(&(!fcs::register::<u32>(octets)).to_be_bytes()),
+        b'Q' => Answers::of(&fcs::register::<u32>(octets).to_be_bytes()),
+        b'G' => Answers::of(&[fcs::good::<u32>(octets) as u8]),
+        b'f' => Answers::of(&fcs::fcs::<u16>(octets)),
+        b'r' => Answers::of(&fcs::register::<u16>(octets).to_be_bytes()),
+        _ => Answers::of(&[fcs::good::<u16>(octets) as u8]),
     }
-}
-
-fn high_first(register: u16) -> Answers {
-    push(
-        push(none(), (register / 256 % 256) as u8),
-        (register % 256) as u8,
-    )
-}
-
-fn high_first32(register: u32) -> Answers {
-    push(
-        push(
-            push(
-                push(none(), (register / 16777216 % 256) as u8),
-                (register / 65536 % 256) as u8,
-            ),
-            (register / 256 % 256) as u8,
-        ),
-        (register % 256) as u8,
-    )
 }

@@ -1,9 +1,9 @@
 // The code blocks' vectors: the COBS draft, section 3's table and section 3.4's stream; document 01, "Code blocks" and "Marked frames and
 // false friends". The settings are 1 with ZXE, else 0.
-use crate::answers::{Answers, none, push_three};
+use crate::answers::Answers;
 use crate::rows;
 use crate::rows::Row;
-use cobs::Meaning;
+use cobs::CodeError;
 use std::io::Print;
 
 pub(crate) fn run<R: Print>(rt: &R) {
@@ -67,27 +67,26 @@ pub(crate) fn run<R: Print>(rt: &R) {
     );
 }
 
-pub(crate) fn answer(row: Row, octets: &[u8]) -> Answers {
-    let asked = row.asked;
+pub(crate) fn answer(row: &Row) -> Answers {
     let zxe = row.settings == 1;
-    let first = rows::octet(octets, 0);
-    match asked {
+    let first = row.given.first().copied().unwrap_or(0);
+    match row.asked {
         b'c' => code(first, zxe),
-        b'x' => push_three(none(), first, cobs::to_line(first), cobs::from_line(first)),
-        b'n' => choice(&[0x31u8; 207][0..(first % 208) as usize], zxe),
-        _ => choice(octets, zxe),
+        b'x' => Answers::of(&[first, cobs::to_line(first), cobs::from_line(first)]),
+        b'n' => choice(&[b'1'; 207][..(first % 208) as usize], zxe),
+        _ => choice(row.given, zxe),
     }
 }
 
 fn code(code: u8, zxe: bool) -> Answers {
     match cobs::look_up(code, zxe) {
-        Meaning::InTable { nonzeros, zeros } => push_three(none(), 0, nonzeros, zeros),
-        Meaning::NotAgreed => push_three(none(), 6, 0, 0),
-        Meaning::NoCode => push_three(none(), 7, 0, 0),
+        Ok(row) => Answers::of(&[0, row.nonzeros, row.zeros]),
+        Err(CodeError::NotAgreed) => Answers::of(&[6, 0, 0]),
+        Err(CodeError::NoCode) => Answers::of(&[7, 0, 0]),
     }
 }
 
 fn choice(rest: &[u8], zxe: bool) -> Answers {
     let chosen = cobs::choose(rest, zxe);
-    push_three(none(), chosen.code, chosen.nonzeros, chosen.zeros)
+    Answers::of(&[chosen.code, chosen.nonzeros, chosen.zeros])
 }

@@ -1,14 +1,14 @@
 // The two ends' vectors, run over the real calls: document 01's marked frames (a) to (h), and an example of each refusal.
 // An answer is an octet or a few: D for Done, R and the number of a refusal; P, the area, the length and the octets of a packet; H, the
 // count and whether it replaced; an octet sent is itself. Idle and Quiet give none.
-ghost use Rattle.std.specs.Prelude.{◌≡◌, ◌≤◌, length};
+ghost use Rattle.std.specs.Prelude.{◌≤◌};
 
-use crate::answers::{Answers, none, push, push_all, push_three};
+use crate::answers::Answers;
 use crate::rows;
 use crate::rows::Row;
 use link::Settings;
-use link::receiver::{PlainReading, Receiver, Report};
-use link::sender::{Lane, LoadAnswer, NextAnswer, Sender};
+use link::receiver::{Receiver, Report};
+use link::sender::{Lane, Sender};
 use std::io::Print;
 
 pub(crate) fn run<R: Print>(rt: &R) {
@@ -110,31 +110,25 @@ pub(crate) fn run<R: Print>(rt: &R) {
     );
 }
 
-fn settings(row: Row) -> Settings {
-    Settings {
-        octet: row.settings,
-        width: row.width,
-        limit: row.limit,
+impl Row<'_> {
+    fn link_settings(&self) -> Settings {
+        Settings {
+            octet: self.settings,
+            width: self.width,
+            limit: self.limit,
+        }
+    }
+
+    // A packet as long as the limit, and its FCS, an octet for each eight bits.
+    fn longest_frame(&self) -> usize
+        ensures { result ≤ 65566 }
+    {
+        self.limit as usize + (self.width / 8) as usize
     }
 }
 
-// A packet as long as the limit, and its FCS, an octet for each eight bits.
-fn longest_frame(row: Row) -> usize
-    ensures { result ≤ 65566 }
-{
-    row.limit as usize + (row.width / 8) as usize
-}
-
 // Room for all that is decoded with 32 bits and the largest limit.
-fn buffer() -> [u8; 16389]
-    ensures { 16389 ≡ length result }
-{
-    [0; 16389]
-}
-
-fn refused(answers: Answers, n: u8) -> Answers {
-    push(push(answers, b'R'), n)
-}
+const ROOM: usize = 16389;
 
 // The sender between calls, and what it has answered.
 #[derive(Clone, Copy)]
@@ -143,168 +137,109 @@ struct Sending {
     answers: Answers,
 }
 
-fn load(sending: Sending, lane: Lane, packet: &[u8], area: &mut [u8]) -> Sending {
-    let before = sending.state;
-    let loaded = before.load(lane, packet, area);
-    let state = loaded.state;
-    let told = sending.answers;
-    let answer = loaded.answer;
-    let answers = match answer {
-        LoadAnswer::Done => push(told, b'D'),
-        LoadAnswer::Refused(n) => refused(told, n),
-    };
-    Sending { state, answers }
+impl Sending {
+    fn load(&mut self, lane: Lane, packet: &[u8], area: &mut [u8]) {
+        match self.state.load(lane, packet, area) {
+            Ok(()) => self.answers.push(b'D'),
+            Err(error) => self.answers.push_refusal(error.into()),
+        }
+    }
+
+    // It is asked for 64 octets; where it is idle there is none.
+    fn drain(&mut self, low: &[u8], high: &[u8]) {
+        for _ in 0..64 {
+            match self.state.next_octet(low, high) {
+                Ok(Some(octet)) => self.answers.push(octet),
+                Ok(None) => {}
+                Err(error) => self.answers.push_refusal(error.into()),
+            }
+        }
+    }
 }
 
-// A fresh sender is loaded once or twice.
-fn load_fresh(row: Row, state: Sender, lane: Lane, packet: &[u8], area: &mut [u8]) -> Sending {
-    let fresh = Sending {
-        state,
-        answers: none(),
-    };
-    let once = load(fresh, lane, packet, area);
-    if row.asked == b'T' {
-        return load(once, lane, packet, area);
+// A fresh sender is loaded, and drained.
+pub(crate) fn sent(row: &Row) -> Answers {
+    match link::sender::open(row.link_settings()) {
+        Ok(state) => sent_by(state, row),
+        Err(error) => Answers::refused(error.into()),
     }
-    once
-}
-
-// It is then asked for octets until it is idle. empty: the area of the lane that is not loaded.
-fn sent_from<'a>(
-    state: Sender,
-    row: Row,
-    packet: &[u8],
-    area: &'a mut [u8],
-    empty: &'a [u8],
-) -> Answers {
-    if row.asked == b'H' {
-        let high = load_fresh(row, state, Lane::High, packet, area);
-        return drain(high, empty, area);
-    }
-    let low = load_fresh(row, state, Lane::Low, packet, area);
-    drain(low, area, empty)
 }
 
 // The areas are just as long as was agreed.
-fn sent_by(state: Sender, row: Row, packet: &[u8]) -> Answers {
-    let mut area = buffer();
-    let empty = buffer();
-    let n = cobs::lesser(longest_frame(row), 16389);
-    sent_from(state, row, packet, &mut area[0..n], &empty[0..n])
-}
-
-pub(crate) fn sent(row: Row, packet: &[u8]) -> Answers {
-    let opening = link::sender::open(settings(row));
-    match opening {
-        link::sender::Opening::Opened(state) => sent_by(state, row, packet),
-        link::sender::Opening::Refused(n) => refused(none(), n),
+fn sent_by(state: Sender, row: &Row) -> Answers {
+    let mut area = [0; ROOM];
+    let empty = [0; ROOM];
+    let n = row.longest_frame().min(ROOM);
+    let mut sending = Sending {
+        state,
+        answers: Answers::none(),
+    };
+    let lane = if row.asked == b'H' {
+        Lane::High
+    } else {
+        Lane::Low
+    };
+    sending.load(lane, row.given, &mut area[..n]);
+    if row.asked == b'T' {
+        sending.load(lane, row.given, &mut area[..n]);
     }
-}
-
-fn drain<'a>(sending: Sending, low: &'a [u8], high: &'a [u8]) -> Answers {
-    let mut state = sending.state;
-    let mut answers = sending.answers;
-    let mut calls = 64u8;
-    while 0 < calls {
-        let next = state.next_octet(low, high);
-        state = next.state;
-        let answer = next.answer;
-        answers = told(answers, answer);
-        calls -= 1;
+    match lane {
+        Lane::Low => sending.drain(&area[..n], &empty[..n]),
+        Lane::High => sending.drain(&empty[..n], &area[..n]),
     }
-    answers
-}
-
-fn told(answers: Answers, answer: NextAnswer) -> Answers {
-    match answer {
-        NextAnswer::Octet(octet) => push(answers, octet),
-        NextAnswer::Idle => answers,
-        NextAnswer::Refused(n) => refused(answers, n),
-    }
-}
-
-// How many octets of the second area are lent: as many as was agreed, or one fewer.
-fn lent(row: Row) -> usize {
-    if row.asked == b'A' {
-        return longest_frame(row);
-    }
-    longest_frame(row) + 1
+    sending.answers
 }
 
 // A fresh receiver takes the octets.
-pub(crate) fn received(row: Row, line: &[u8]) -> Answers {
-    let opening = link::receiver::open(settings(row), PlainReading::Off);
-    match opening {
-        link::receiver::Opening::Opened(state) => received_by(state, row, line),
-        link::receiver::Opening::Refused(n) => refused(none(), n),
+pub(crate) fn received(row: &Row) -> Answers {
+    match link::receiver::open(row.link_settings(), None) {
+        Ok(state) => received_by(state, row),
+        Err(error) => Answers::refused(error.into()),
     }
 }
 
-fn received_by(fresh: Receiver, row: Row, line: &[u8]) -> Answers {
-    let mut first = buffer();
-    let mut second = buffer();
-    let mut state = fresh;
+// The second area is just as long as was agreed, or one octet shorter.
+fn received_by(mut state: Receiver, row: &Row) -> Answers {
+    let mut first = [0; ROOM];
+    let mut second = [0; ROOM];
+    let lent = if row.asked == b'A' {
+        row.longest_frame()
+    } else {
+        row.longest_frame() + 1
+    };
     if row.asked == b'L' {
         state.left = 208;
     }
-    let n = lent(row);
-    received_in(state, row, line, n, &mut first, &mut second)
+    feed(state, row, &mut first, &mut second[..lent.min(ROOM)])
 }
 
-fn received_in(
-    state: Receiver,
-    row: Row,
-    line: &[u8],
-    lent: usize,
-    first: &mut [u8],
-    second: &mut [u8],
-) -> Answers {
-    let n = cobs::lesser(lent, second.len());
-    feed(state, row, line, first, &mut second[0..n])
-}
-
-// Which octet of the line comes as the i-th, where the one at a place comes so many times more.
-fn place(i: usize, at: usize, again: usize) -> usize {
-    if i <= at {
-        return i;
-    }
-    if i - at <= again {
-        return at;
-    }
-    i - again
-}
-
-fn feed(state: Receiver, row: Row, line: &[u8], first: &mut [u8], second: &mut [u8]) -> Answers {
-    let at = row.at as usize;
-    let again = row.again as usize;
-    let calls = line.len() % 256 + again;
-    let mut state = state;
-    let mut answers = none();
-    let mut i = 0;
-    while i < calls {
-        let octet = rows::octet(line, place(i, at, again));
-        let received = state.receive(octet, first, second);
-        state = received.state;
-        let report = received.report;
-        answers = note(answers, report, first, second);
-        i += 1;
+// The octet at the row's place comes so many times more.
+fn feed(mut state: Receiver, row: &Row, first: &mut [u8], second: &mut [u8]) -> Answers {
+    let mut answers = Answers::none();
+    for (i, octet) in row.given.iter().enumerate() {
+        let again = if i == row.at as usize { row.again } else { 0 };
+        for _ in 0..=again {
+            let received = state.receive(*octet, first, second);
+            state = received.state;
+            note(&mut answers, received.report, first, second);
+        }
     }
     answers
 }
 
-fn note<'a>(answers: Answers, report: Report, first: &'a [u8], second: &'a [u8]) -> Answers {
+fn note(answers: &mut Answers, report: Report, first: &[u8], second: &[u8]) {
     match report {
-        Report::Quiet => answers,
+        Report::Quiet => {}
         Report::Packet {
             second: took,
             length,
         } => {
-            let named = push_three(answers, b'P', took as u8, (length % 256) as u8);
-            push_all(named, tally::shown(took, length, first, second))
+            answers.push_all(&[b'P', took as u8, (length % 256) as u8]);
+            answers.push_all(tally::shown(took, length, first, second));
         }
         Report::Held { count, replaced } => {
-            push_three(answers, b'H', (count % 256) as u8, replaced as u8)
+            answers.push_all(&[b'H', (count % 256) as u8, replaced as u8]);
         }
-        Report::Refused(n) => refused(answers, n),
+        Report::Refused(n) => answers.push_refusal(n),
     }
 }

@@ -1,27 +1,33 @@
 -- Writing on, octet by octet, at the numbers of the loop.
 use mathlib.Core.Path.{◌≡◌, refl, sym, ap, ◌∙◌}
-use mathlib.Core.Bool.{true, false}
+use mathlib.Core.Bool.{true, false, not, ◌&&◌}
 use mathlib.Core.List.{List, ◌∷◌, ◌++◌, map, append-nil, append_assoc}
 use Prim.Native.Nat.{ℕ, zero, suc, ◌+◌, ◌-◌, ◌≤◌, ◌<◌}
 use native.Mathlib.Nat.{add-zero, zero-add, sub-zero}
 use native.Mathlib.Numerals.{add-one}
 use native.Mathlib.Omega.{arith}
+use borrow.Author.Tests.{eqb-true, not-false}
 use lib.Dec.{eqb}
-use lib.ListN.{length, take, drop, set, get_or, length-set, length-append, length-drop, length-map, get_or-map, take-append-drop}
-use lib.Seq.{paste, take-suc-set, drop-set-lt, append_snoc, drop-cons, drop-drop, length-take-le, get_or-drop, paste-suc, length-paste, take-paste, drop-paste}
+use Rattle.std.proofs.lemmas.List.{take-map}
+use lib.ListN.{length, take, drop, set, get_or, length-set, length-append, length-drop, length-map, take-append-drop}
+use lib.Seq.{paste, take-suc-set, drop-set-lt, append_snoc, drop-cons, drop-drop, length-take-le, length-paste, take-paste, drop-paste}
 use Rattle.std.specs.Prelude.{if◌then◌else◌}
 use Rattle.cobs.specs.CodeBlocks.{flag, to_line}
-use Rattle.link.specs.Answers.{Answer, done, octet, idle, quiet, packet, held, refused, next_answer}
-use Rattle.link.specs.declared.sender.NextAnswer.{NextAnswer}
-use Rattle.link.specs.declared.sender.NextAnswer.TheVariants.{Octet, Idle, Refused}
+use Rattle.link.specs.Answers.{Answer, done, octet, idle, quiet, packet, held, refused, next_answer, next_refusal}
+use Rattle.link.specs.declared.sender.NextError.{NextError}
+use Rattle.std.specs.Prelude.{Option, Some, None, Result, Ok, Err}
 use Rattle.link.specs.declared.Settings.{Settings}
 use Rattle.link.specs.declared.sender.Sender.{Sender}
 use Rattle.link.specs.declared.sender.Lane.{Lane}
 use Rattle.link.specs.declared.sender.Lane.TheVariants.{Low as low, High as high}
-use Rattle.link.specs.Sender.{SenderEnd, Next, lane_area, lane_state, next, seen}
+use Rattle.link.specs.Agreed.{agreed, largest_frame}
+use Rattle.link.specs.Receiver.{write}
+use Rattle.link.specs.Sender.{SenderEnd, Next, is_low, lane_area, lane_state, next, seen}
 use Rattle.link.specs.SenderParts.{SenderReady}
-use Rattle.link.proofs.EachCall.{settings-stay}
-use Rattle.link.proofs.WriteOn.{octet-ready, sent, Stretch, first, rest, inside, plain}
+use Rattle.link.proofs.EachCall.{settings-stay, idle-changes-nothing, refused-changes-nothing}
+use Rattle.link.proofs.Agreed.{frame-at-most}
+use Rattle.link.proofs.SenderBounds.{low-high}
+use Rattle.link.proofs.WriteOn.{octet-ready, sent, Stretch, first, rest, inside, plain, block-in-area}
 use Rattle.writer.specs.Writing.{Wrote, writes_nothing, octet_first, by_answer, write_on, from_place}
 use Rattle.writer.specs.Pieces.{NoOctet}
 
@@ -49,13 +55,23 @@ pub ends : (e : SenderEnd) (line : List ℕ) (i : ℕ) → length line ≤ i
 unfolding write_on
 ends e line i l = let z : length line - i ≡ 0 = omega arith in rw z (stays i line e.state)
 
+-- what a call answers: an octet, none, or a refusal
+abbrev NextAnswer : Type 0
+NextAnswer = Result (Option ℕ) NextError
+
 -- after an octet the sender is in bounds, and its areas are long enough
-pub ready-after : (e : SenderEnd) (a : NextAnswer) (t : Sender) → record { answer = next_answer a; state = t } ≡ seen (next e) → (x : ℕ) → a ≡ Octet x → SenderReady (with t e)
+pub ready-after : (e : SenderEnd) (a : NextAnswer) (t : Sender) → record { answer = next_answer a; state = t } ≡ seen (next e) → (x : ℕ) → a ≡ Ok (Some x) → SenderReady (with t e)
 ready-after e a t p x q = octet-ready e x t (rw q at p)
 
 -- nor does a call change the settings
 pub settings-kept : (e : SenderEnd) (a : NextAnswer) (t : Sender) → record { answer = next_answer a; state = t } ≡ seen (next e) → t.settings ≡ e.state.settings
 settings-kept e a t p = ap (λ (h : Next). h.state.settings) p ∙ settings-stay.next e
+
+-- and one that answers no octet leaves the sender as it was
+unmoved : (e : SenderEnd) (a : NextAnswer) (t : Sender) → record { answer = next_answer a; state = t } ≡ seen (next e) → ((x : ℕ) → a ≡ Ok (Some x) → ⊥) → t ≡ e.state
+unmoved e (Ok (Some x)) t p k = absurd (k x refl)
+unmoved e (Ok None) t p k = ap (λ (h : Next). h.state) p ∙ idle-changes-nothing e (sym (ap (λ (h : Next). h.answer) p))
+unmoved e (Err r) t p k = ap (λ (h : Next). h.state) p ∙ refused-changes-nothing.next e (next_refusal r) (sym (ap (λ (h : Next). h.answer) p))
 
 -- a sender with settings stored in it; where they are its own, it writes on as it did
 abbrev with_settings : Settings → Sender → Sender
@@ -84,23 +100,23 @@ module _ (e : SenderEnd) (line : List ℕ) (i : ℕ) (l : i < length line) (a : 
   unfolding write_on
   written = rw room (ap (λ (h : Next). by_answer h.answer e.state h.state (write_on (length line - (i + 1)) (with h.state e))) (sym p))
 
-  pub goes_on : (x : ℕ) → a ≡ Octet x → eqb x flag ≡ false
+  pub goes_on : (x : ℕ) → a ≡ Ok (Some x) → eqb x flag ≡ false
       → from_place i line (write_on (length line - i) e) ≡ from_place (i + 1) (set line i x) (write_on (length (set line i x) - (i + 1)) (with t e))
   goes_on x q f = rw (length-set, written, q, f) (one_more i line x _ l)
 
-  pub at_flag : (x : ℕ) → a ≡ Octet x → eqb x flag ≡ true
+  pub at_flag : (x : ℕ) → a ≡ Ok (Some x) → eqb x flag ≡ true
       → from_place i line (write_on (length line - i) e) ≡ record { state = t; line = set line i x; filled = i + 1 }
   at_flag x q f = rw (written, q, f) (one_more i line x _ l ∙ stays (i + 1) (set line i x) t)
 
   -- any answer but an octet
-  pub stops : ((x : ℕ) → a ≡ Octet x → ⊥) → from_place i line (write_on (length line - i) e) ≡ record { state = e.state; line = line; filled = i }
-  stops k = rw (written, other a k) (stays i line e.state)
+  pub stops : ((x : ℕ) → a ≡ Ok (Some x) → ⊥) → from_place i line (write_on (length line - i) e) ≡ record { state = t; line = line; filled = i }
+  stops k = rw (written, other a k, unmoved e a t p k) (stays i line e.state)
     where
-      other : (b : NextAnswer) → ((x : ℕ) → b ≡ Octet x → ⊥)
+      other : (b : NextAnswer) → ((x : ℕ) → b ≡ Ok (Some x) → ⊥)
           → by_answer (next_answer b) e.state t (write_on (length line - (i + 1)) (with t e)) ≡ writes_nothing e.state
-      other (Octet x) k = absurd (k x refl)
-      other Idle k = refl
-      other (Refused n) k = refl
+      other (Ok (Some x)) k = absurd (k x refl)
+      other (Ok None) k = refl
+      other (Err n) k = refl
 
 -- ---- a stretch of data octets
 
@@ -165,13 +181,36 @@ stretches l n e line at h k j =
     let r : length line - at ≡ n + (length line - (at + n)) = omega arith in
     rw (length-paste line at xs n k i, r, writes n (length line - (at + n)) l e h) (pastes at n line xs _ k i)
 
--- a turn of the loop that copies them
-pub copies : (line area : List ℕ) (at from i : ℕ) → at + i < length line → from + i < length area
-    → set (paste line at (map to_line (drop from area)) i) (at + i) (to_line (get_or area (from + i) 0)) ≡ paste line at (map to_line (drop from area)) (i + 1)
-copies line area at from i l k =
-    let xs = map to_line (drop from area) in
-    let j : i < length xs = rw (length-map (drop from area) to_line, length-drop) (omega arith) in
-    rw (add-one, ← get_or-drop from area i 0, ← get_or-map to_line (drop from area) i 0) (paste-suc line at xs i (to_line 0) l j)
+-- ---- the same as the code does it
+
+-- n data octets of a lane's block are inside its area
+pub record Inside (l : Lane) (n : ℕ) (e : SenderEnd) : Type 0 where
+  pub within : (lane_state l e.state).position + n ≤ length (lane_area l e)
+  pub counted : (lane_state l e.state).position + n < 65536
+
+area-long : (l : Lane) (e : SenderEnd) → SenderReady e → largest_frame (agreed e.state.settings) ≤ length (lane_area l e)
+area-long low e b = b.low
+area-long high e b = b.high
+
+pub inside-area : (l : Lane) (n : ℕ) (e : SenderEnd) → SenderReady e → e.state.on ≡ Some l → n < e.state.left → Inside l n e
+inside-area l n e b o h =
+    let k = block-in-area l e b o in
+    record { within = omega (arith, k, area-long l e b); counted = omega (arith, k, frame-at-most e.state.settings b.valid) }
+
+-- low does not give way to a packet of high's
+pub stays_alone : (l : Lane) (n : ℕ) → (is_low l && not (eqb n 0)) ≡ false → l ≡ low → n ≡ 0
+stays_alone low n t p = eqb-true n 0 (not-false (eqb n 0) t)
+stays_alone high n t p = low-high p
+
+-- the octets that are copied, and the sender after them
+pub stretch-written : (l : Lane) (n : ℕ) (e : SenderEnd) (line after : List ℕ) (at : ℕ) (t : Sender) → Stretch l n e → Inside l n e → at + n ≤ length line
+    → after ≡ write line at (map to_line (take n (drop (lane_state l e.state).position (lane_area l e)))) → t ≡ sent n l e.state
+    → from_place at line (write_on (length line - at) e) ≡ from_place (at + n) after (write_on (length after - (at + n)) (with t e))
+stretch-written l n e line after at t h i k w p =
+    let xs = drop (lane_state l e.state).position (lane_area l e) in
+    let m : length (map to_line (take n xs)) ≡ n = rw length-map (length-take-le n xs (rw length-drop (omega (arith, i.within)))) in
+    let q : after ≡ paste line at (map to_line xs) n = w ∙ rw (m, ← take-map to_line n xs) in
+    rw (q, p) (stretches l n e line at h k i.within)
 
 -- ---- nothing written
 

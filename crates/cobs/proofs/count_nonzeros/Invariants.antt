@@ -1,12 +1,10 @@
--- `cobs::count_nonzeros` meets its contract. The loop's invariant: i and what is counted from there on make up the count.
-use mathlib.Core.Path.{◌≡◌}
-use Prim.Native.Nat.{◌+◌, ◌-◌, ◌≤◌}
-use lib.ListN.{length, drop}
+-- `cobs::count_nonzeros` meets its contract. The loop's invariant: the octets before k are counted.
+use Prim.Native.Nat.{◌-◌, ◌≤◌}
 use Rattle.cobs.specs.CodeBlocks.{with_phantom, leading_nonzeros}
 use Rattle.cobs.proofs.count_nonzeros.Given as goal
 
-abbrev pub invariant-loop-i : goal.invariant-loop-i
-invariant-loop-i l = (l.i ≤ 207) × (l.i ≤ length l.rest) × (leading_nonzeros 207 (with_phantom l.rest) ≡ l.i + leading_nonzeros (207 - l.i) (drop l.i (with_phantom l.rest)))
+abbrev pub invariant-loop-k : goal.invariant-loop-k
+invariant-loop-k l = l.k ≤ leading_nonzeros 207 (with_phantom l.rest)
 
-abbrev pub decreases-loop-i : goal.decreases-loop-i
-decreases-loop-i l = 207 - l.i
+abbrev pub decreases-loop-k : goal.decreases-loop-k
+decreases-loop-k l = 207 - l.k

@@ -1,12 +1,8 @@
-use native.Mathlib.Omega.{arith}
-use Rattle.lines.proofs.DecimalDigits.{count-one, count-more}
+-- `lines::digits`.
+use Rattle.std.proofs.Common.{◌∙◌, ap, ◌+◌}
+use Rattle.lines.proofs.DigitsWritten.{count-of}
 use Rattle.lines.proofs.digits.Goals as goal
 
-pub loop-rest-init : goal.loop-rest-init
-loop-rest-init c = (omega arith, omega arith)
-
-pub loop-rest-preserved : goal.loop-rest-preserved
-loop-rest-preserved c = (omega (arith, count-more c.loop-rest.rest c.loop-rest-test.true), omega arith)
-
-pub returns : goal.returns
-returns c = omega (arith, count-one c.loop-rest.rest c.loop-rest-test.false)
+pub returns-clause-count : goal.returns-clause-count
+returns-clause-count c = let log = c.checked_ilog10.ensures in
+    ap (λ k. k + 1) c.unwrap_or.ensures ∙ count-of c.args.n c.checked_ilog10.result log.none log.power_le log.next_power_gt

@@ -1,37 +1,31 @@
-use mathlib.Core.Path.{◌≡◌, refl, sym, ◌∙◌}
-use Prim.Native.Nat.{◌+◌, ◌/◌}
-use native.Mathlib.Omega.{arith}
-use lib.ListN.{set, length-set}
-use lib.Seq.{sets}
+-- `lines::write_digits`.
+use Rattle.std.proofs.Common.{◌≡◌, ◌+◌, ◌-◌, ◌%◌, ◌≤◌, ◌<◌, arith, sym, ◌∙◌}
+use lib.ListN.{drop}
+use lib.Seq.{drop-length}
+use Rattle.std.proofs.lemmas.List.{append-nil}
 use Rattle.lines.specs.Lines.{decimal}
-use Rattle.lines.proofs.Append.{stored}
-use Rattle.lines.proofs.DecimalDigits.{count-some, count-more, last_stored, first-stored}
+use Rattle.lines.proofs.DecimalDigits.{count-some, count-more, decimal-one}
+use Rattle.lines.proofs.DigitsWritten.{single, several, drop-here, more-digits}
 use Rattle.lines.proofs.write_digits.Goals as goal
 
-pub overflow_sub-at : goal.overflow_sub-at
-overflow_sub-at c = omega (arith, count-some c.args.n)
+pub loop-i-init : goal.loop-i-init
+loop-i-init c = let a = c.args in
+    record {
+      rest = λ h. (sym c.requires, rw (drop-length a.area.now, append-nil (decimal a.n)));
+      all = λ z. absurd (omega (arith, count-some a.n));
+    }
 
-pub loop-rest-init : goal.loop-rest-init
-loop-rest-init c = (omega (arith, count-some c.args.n), omega (arith, count-some c.args.n), refl, refl)
-
-pub overflow_sub-at-in-loop-rest : goal.overflow_sub-at-in-loop-rest
-overflow_sub-at-in-loop-rest c = omega (arith, count-more c.loop-rest.rest c.loop-rest-test.true, count-some (c.loop-rest.rest / 10))
-
-pub loop-rest-preserved : goal.loop-rest-preserved
-loop-rest-preserved c = let a = c.args in
-    let more = count-more c.loop-rest.rest c.loop-rest-test.true in
-    let some = count-some (c.loop-rest.rest / 10) in (
-      omega arith,
-      omega arith,
-      simp length-set c.loop-rest.invariant.2,
-      c.loop-rest.invariant.3 ∙ last_stored c.loop-rest.page a.filled c.loop-rest.at c.loop-rest.rest c.loop-rest-test.true c.loop-rest.invariant.1,
-    )
-
-pub shape_of-page : goal.shape_of-page
-shape_of-page c = simp length-set c.loop-rest.invariant.2
-
-pub returns : goal.returns
-returns c = let a = c.args in
-    let whole : set c.loop-rest.page c.loop-rest.at (0x30 + c.loop-rest.rest) ≡ sets a.page.now a.filled (decimal a.n) =
-    sym (c.loop-rest.invariant.3 ∙ first-stored c.loop-rest.page a.filled c.loop-rest.at c.loop-rest.rest c.loop-rest-test.false c.loop-rest.invariant.1) in
-    rw (whole, c.requires.0) (stored a.page.now a.filled (decimal a.n) (omega arith))
+pub loop-i-preserved : goal.loop-i-preserved
+loop-i-preserved c = let l = c.loop-i in
+    let k = l.invariant.rest c.loop-i-test.true in
+    let long = k.0 in
+    let e : l.i - 1 + 1 ≡ l.i = omega arith in
+    let here = drop-here l.area (l.i - 1) (48 + l.rest % 10) (omega arith) in
+    record {
+      rest = λ h. let ten : 10 ≤ l.rest = several l.rest (omega arith) in
+          (omega (arith, count-more l.rest ten), k.1 ∙ more-digits l.rest (drop l.i l.area) ten ∙ rw (here, e));
+      all = λ z. let one : l.i ≡ 1 = omega arith in
+          let digit : l.rest < 10 = single l.rest (omega arith) in
+          let same : l.rest % 10 ≡ l.rest = omega arith in
+          rw (z, same) ((rw (z, same) at here) ∙ sym (k.1 ∙ rw (decimal-one l.rest digit, one)));
+    }

@@ -1,12 +1,7 @@
--- `link::copy`. The loop's invariant: the octets still to be stored lead to what all of them make of the area.
+-- `link::copy`. The loop's invariant: the first i octets are written.
 use mathlib.Core.Path.{◌≡◌}
-use Prim.Native.Nat.{◌+◌, ◌-◌, ◌≤◌}
-use lib.ListN.{length, drop}
-use lib.Seq.{sets}
+use lib.Seq.{paste}
 use Rattle.link.proofs.copy.Given as goal
 
 abbrev pub invariant-loop-i : goal.invariant-loop-i
-invariant-loop-i l = (l.i ≤ length l.octets) × (length l.area ≡ length l.initial.area) × (sets l.initial.area l.at l.octets ≡ sets l.area (l.at + l.i) (drop l.i l.octets))
-
-abbrev pub decreases-loop-i : goal.decreases-loop-i
-decreases-loop-i l = length l.octets - l.i
+invariant-loop-i l = l.area ≡ paste l.initial.area l.at l.octets l.i

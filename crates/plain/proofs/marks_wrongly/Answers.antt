@@ -1,24 +1,15 @@
-use mathlib.Core.Path.{sym, ◌∙◌}
-use native.Mathlib.Omega.{arith}
-use Rattle.plain.specs.Maps.{marks_wrongly}
-use Rattle.plain.proofs.Some.{some_more, some-found, some-none}
+-- `plain::marks_wrongly`.
+use Rattle.std.proofs.Common.{rules, tests, refl, ◌∙◌, sym}
+use Rattle.std.proofs.lemmas.Iterator.{YieldsList-from_range}
+use Rattle.std.proofs.lemmas.Iterator.Search.{any_from_yields_List}
+use Rattle.plain.specs.Maps.{marked, marks_wrongly}
+use Rattle.plain.proofs.Some.{some-of}
 use Rattle.plain.proofs.marks_wrongly.Goals as goal
 
-pub returns-then-marked : goal.returns-then-marked
+pub returns-else-marked : goal.returns-else-marked
 unfolding marks_wrongly
-returns-then-marked c = simp (sym c.marked.ensures, c.if-marked.true)
-
-pub loop-x-init : goal.loop-x-init
-unfolding marks_wrongly
-loop-x-init c = (omega arith, omega arith, simp (sym c.marked.ensures, c.if-marked.false))
-
-pub returns-then-marked-2 : goal.returns-then-marked-2
-returns-then-marked-2 c = let l = c.loop-x in
-    sym (l.invariant.2 ∙ some-found _ l.x 0x40 (omega arith) (sym c.marked-in-loop-x.ensures ∙ c.if-marked-2.true))
-
-pub loop-x-preserved : goal.loop-x-preserved
-loop-x-preserved c = let l = c.loop-x in
-    (omega arith, omega arith, l.invariant.2 ∙ some_more _ l.x 0x40 (omega arith) (sym c.marked-in-loop-x.ensures ∙ c.if-marked-2.false))
-
-pub returns : goal.returns
-returns c = let l = c.loop-x in sym (l.invariant.2 ∙ some-none _ l.x 0x40 (omega arith))
+returns-else-marked c =
+    let none = sym c.marked.ensures ∙ c.if-marked.false in
+    rw none
+    (any_from_yields_List (marked c.args.marks.now) _ _ _ c.any.ensures.ran (YieldsList-from_range 0x20 0x40 0x20 (cc) refl) (λ x b q k. search (rules, tests))
+    ∙ some-of (marked c.args.marks.now) 0x20 0x20)

@@ -1,24 +1,13 @@
-use mathlib.Core.Path.{sym, ◌∙◌}
-use Prim.Native.Nat.{◌<◌}
-use native.Mathlib.Omega.{arith}
-use lib.ListN.{length}
-use Rattle.plain.proofs.Stuffed.{stuffed-done, one-longer, two-longer}
-use Rattle.plain.proofs.stuffed_length.Goals.{then-marked, else-marked}
+-- `plain::stuffed_length`.
+use Rattle.std.proofs.Common.{rules, tests, arith}
+use Rattle.std.proofs.lemmas.Iterator.{YieldsList-from_slice}
+use Rattle.std.proofs.lemmas.Iterator.Consumers.{count_from_yields_List, YieldsList-from_filter}
+use Rattle.plain.specs.Maps.{marked}
+use Rattle.plain.proofs.Stuffed.{stuffed-length}
 use Rattle.plain.proofs.stuffed_length.Goals as goal
 
-pub loop-i-preserved : goal.loop-i-preserved
-loop-i-preserved c = let a = c.args in
-    let h : c.loop-i.i < length a.octets.now = omega arith in
-    let two = two-longer a.marks.now a.octets.now c.loop-i.i h in
-    let one = one-longer a.marks.now a.octets.now c.loop-i.i h in
-    let e = sym c.marked.ensures in
-    elim c.if-marked.branch [
-      | then-marked w ↦ omega (arith, w.n-is, two (e ∙ w.if-marked.true))
-      | else-marked w ↦ omega (arith, w.n-is, one (e ∙ w.if-marked.false))
-    ]
-
 pub returns : goal.returns
-returns c = let l = c.loop-i in
-    let a = c.args in
-    let none = stuffed-done a.marks.now a.octets.now l.i (omega arith) in
-    omega (arith, rw none at l.invariant.2)
+returns c =
+    let s = c.args.octets.now in
+    let escaped = count_from_yields_List c.filter.result _ c.count.ensures.ran (YieldsList-from_filter _ (marked c.args.marks.now) (YieldsList-from_slice s cc) c.filter.ensures.closure (λ x r q k. search (rules, tests))) in
+    omega (arith, escaped, stuffed-length c.args.marks.now s)

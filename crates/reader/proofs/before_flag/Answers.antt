@@ -1,21 +1,13 @@
-use native.Mathlib.Nat.{zero-add}
-use native.Mathlib.Omega.{arith}
-use borrow.Author.Tests.{eq-eqb, ne_eqb}
+use mathlib.Core.Path.{◌∙◌}
+use Rattle.std.proofs.Common.{rules, tests}
+use Rattle.std.proofs.lemmas.Iterator.{YieldsList-from_slice}
+use Rattle.std.proofs.lemmas.Iterator.Search.{position_from_yields_List}
 use Rattle.reader.specs.Stretches.{is_flag}
-use Rattle.reader.proofs.Quiet.{one_more, at_first, at-end}
+use Rattle.reader.proofs.Quiet.{found_or_all}
 use Rattle.reader.proofs.before_flag.Goals as goal
 
-pub loop-i-init : goal.loop-i-init
-loop-i-init c = (omega arith, simp zero-add)
-
-pub returns-then-octets-i-eq-FLAG : goal.returns-then-octets-i-eq-FLAG
-returns-then-octets-i-eq-FLAG c = omega (arith, c.loop-i.invariant.1, at_first is_flag c.args.octets.now c.loop-i.i c.loop-i-test.true (eq-eqb _ _ c.if-octets-i-eq-FLAG.true))
-
-pub loop-i-preserved : goal.loop-i-preserved
-loop-i-preserved c = (
-  omega arith,
-  omega (arith, c.loop-i.invariant.1, one_more is_flag c.args.octets.now c.loop-i.i c.loop-i-test.true (ne_eqb _ _ c.if-octets-i-eq-FLAG.false)),
-)
-
 pub returns : goal.returns
-returns c = omega (arith, c.loop-i.invariant.1, at-end is_flag c.args.octets.now c.loop-i.i c.loop-i-test.false)
+returns c =
+    let l = c.args.octets.now in
+    let p = position_from_yields_List is_flag _ _ c.position.result c.position.ensures.ran (YieldsList-from_slice l cc) (λ x b q k. search (rules, tests)) in
+    c.unwrap_or.ensures ∙ rw p (found_or_all is_flag l)

@@ -1,23 +1,13 @@
-use mathlib.Core.Path.{sym, ◌∙◌}
-use native.Mathlib.Nat.{zero-add}
-use native.Mathlib.Omega.{arith}
+use mathlib.Core.Path.{◌∙◌}
+use Rattle.std.proofs.Common.{rules, tests}
+use Rattle.std.proofs.lemmas.Iterator.{YieldsList-from_slice}
+use Rattle.std.proofs.lemmas.Iterator.Search.{position_from_yields_List}
 use Rattle.reader.specs.Stretches.{is_special}
-use Rattle.reader.proofs.Quiet.{one_more, at_first, at-end}
+use Rattle.reader.proofs.Quiet.{found_or_all}
 use Rattle.reader.proofs.before_special.Goals as goal
 
-pub loop-i-init : goal.loop-i-init
-loop-i-init c = (omega arith, simp zero-add)
-
-pub returns-then-special : goal.returns-then-special
-returns-then-special c = let a = c.args in
-    omega (arith, c.loop-i.invariant.1, at_first (is_special a.map) a.octets.now c.loop-i.i c.loop-i-test.true (sym c.special.ensures ∙ c.if-special.true))
-
-pub loop-i-preserved : goal.loop-i-preserved
-loop-i-preserved c = let a = c.args in (
-  omega arith,
-  omega (arith, c.loop-i.invariant.1, one_more (is_special a.map) a.octets.now c.loop-i.i c.loop-i-test.true (sym c.special.ensures ∙ c.if-special.false)),
-)
-
 pub returns : goal.returns
-returns c = let a = c.args in
-    omega (arith, c.loop-i.invariant.1, at-end (is_special a.map) a.octets.now c.loop-i.i c.loop-i-test.false)
+returns c =
+    let l = c.args.octets.now in
+    let p = position_from_yields_List (is_special c.args.map) _ _ c.position.result c.position.ensures.ran (YieldsList-from_slice l cc) (λ x b q k. search (rules, tests)) in
+    c.unwrap_or.ensures ∙ rw p (found_or_all (is_special c.args.map) l)

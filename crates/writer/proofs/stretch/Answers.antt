@@ -1,51 +1,29 @@
--- `writer::stretch` meets its contract.
-use mathlib.Core.Path.{refl, ap, ◌∙◌}
-use Prim.Native.Nat.{◌+◌, ◌≤◌}
+-- `writer::stretch`.
+use mathlib.Core.Path.{sym, ◌∙◌}
 use native.Mathlib.Omega.{arith}
+use lib.ListN.{length-take, length-drop}
 use borrow.Author.Rules.{rules}
-use lib.ListN.{length}
-use Rattle.link.specs.declared.sender.Lane.TheVariants.{Low as low, High as high}
-use Rattle.link.specs.declared.sender.OnLine.TheVariants.{Sending}
-use Rattle.link.proofs.SenderBounds.{low-high}
-use Rattle.link.proofs.Agreed.{frame-at-most}
-use Rattle.link.proofs.WriteOn.{Stretch, block-in-area}
-use Rattle.writer.proofs.Steps.{stretches}
+use Rattle.link.proofs.WriteOn.{Stretch}
+use Rattle.writer.proofs.Steps.{inside-area, stays_alone, stretch-written}
 use Rattle.writer.proofs.stretch.Goals as goal
 
-pub copy-requires : goal.copy-requires
-copy-requires c = let on = c.in-Sending.is ∙ ap Sending c.in-Low.is in
-    let b = block-in-area low _ c.requires.0 on in
-    (omega (arith, b, c.lesser-n.ensures, c.if-left-lt2.false, c.requires.0.low), omega (arith, c.lesser-n.ensures, c.requires.1))
+pub behind-requires : goal.behind-requires
+behind-requires c = let i = inside-area c.in-Some.lane 0 _ c.requires.0 c.in-Some.is (omega arith) in omega arith
 
-pub overflow_add-position : goal.overflow_add-position
-overflow_add-position c = let on = c.in-Sending.is ∙ ap Sending c.in-Low.is in
-    let b = block-in-area low _ c.requires.0 on in
-    omega (arith, b, frame-at-most c.args.state.settings c.requires.0.valid, c.lesser-n.ensures, c.if-left-lt2.false)
+pub slice_bounds-copy-end : goal.slice_bounds-copy-end
+slice_bounds-copy-end c = let i = inside-area c.in-Some.lane c.min-n.result _ c.requires.0 c.in-Some.is (omega arith) in
+    rw c.behind.ensures (simp (length-take, length-drop) (omega arith))
 
-pub copy-requires-in-High : goal.copy-requires-in-High
-copy-requires-in-High c = let on = c.in-Sending.is ∙ ap Sending c.in-High.is in
-    let b = block-in-area high _ c.requires.0 on in
-    (omega (arith, b, c.lesser-n.ensures, c.if-left-lt2.false, c.requires.0.high), omega (arith, c.lesser-n.ensures, c.requires.1))
+pub advance-requires : goal.advance-requires
+advance-requires c = let i = inside-area c.in-Some.lane c.min-n.result _ c.requires.0 c.in-Some.is (omega arith) in (omega arith, i.counted)
 
-pub overflow_add-position-in-High : goal.overflow_add-position-in-High
-overflow_add-position-in-High c = let on = c.in-Sending.is ∙ ap Sending c.in-High.is in
-    let b = block-in-area high _ c.requires.0 on in
-    omega (arith, b, frame-at-most c.args.state.settings c.requires.0.valid, c.lesser-n.ensures, c.if-left-lt2.false)
-
-pub returns-else-state-ne0 : goal.returns-else-state-ne0
-returns-else-state-ne0 c = let on = c.in-Sending.is ∙ ap Sending c.in-Low.is in
-    let b = block-in-area low _ c.requires.0 on in
-    let h : Stretch low c.lesser-n.result _ = record { ready = c.requires.0; on = on; more = omega (arith, c.lesser-n.ensures); alone = λ _. c.if-state-ne0.false } in
-    let k : c.args.at + c.lesser-n.result ≤ length c.args.line.now = omega (arith, c.lesser-n.ensures, c.requires.1) in
-    let j : c.args.state.low.position + c.lesser-n.result ≤ length c.args.low.now =
-    omega (arith, b, c.lesser-n.ensures, c.if-left-lt2.false, c.requires.0.low) in
-    record { high_value = rw c.copy.ensures (stretches low c.lesser-n.result _ c.args.line.now c.args.at h k j); at_le_filled = (omega arith, search rules); settings_value = refl }
-
-pub returns-in-High : goal.returns-in-High
-returns-in-High c = let on = c.in-Sending.is ∙ ap Sending c.in-High.is in
-    let b = block-in-area high _ c.requires.0 on in
-    let h : Stretch high c.lesser-n.result _ = record { ready = c.requires.0; on = on; more = omega (arith, c.lesser-n.ensures); alone = λ k. low-high k } in
-    let k : c.args.at + c.lesser-n.result ≤ length c.args.line.now = omega (arith, c.lesser-n.ensures, c.requires.1) in
-    let j : c.args.state.high.position + c.lesser-n.result ≤ length c.args.high.now =
-    omega (arith, b, c.lesser-n.ensures, c.if-left-lt2.false, c.requires.0.high) in
-    record { high_value = rw c.copy-in-High.ensures (stretches high c.lesser-n.result _ c.args.line.now c.args.at h k j); at_le_filled = (omega arith, search rules); settings_value = refl }
+pub returns : goal.returns
+returns c = let l = c.in-Some.lane in
+    let n = c.min-n.result in
+    let i = inside-area l n _ c.requires.0 c.in-Some.is (omega arith) in
+    let h : Stretch l n _ = record { ready = c.requires.0; on = c.in-Some.is; more = omega arith; alone = stays_alone l _ (sym c.gives_way.ensures ∙ c.if-gives_way.false) } in
+    record {
+      written_value = stretch-written l n _ _ _ _ _ h i (omega arith) (rw c.behind.ensures at c.copy.ensures) c.advance.ensures;
+      in_bounds = omega arith;
+      settings_value = search rules;
+    }

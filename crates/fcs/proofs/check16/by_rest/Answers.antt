@@ -15,12 +15,12 @@ use Rattle.fcs.proofs.Laws.{feed-more, feed-done, feed-number, sound16}
 use Rattle.fcs.proofs.Fold.{word_below}
 use Rattle.fcs.proofs.check16.by_rest.Goals as goal
 
-pub returns-then-n-eq0 : goal.returns-then-n-eq0
-returns-then-n-eq0 c = let a = c.args in
+pub returns-in-empty : goal.returns-in-empty
+returns-in-empty c = let a = c.args in
     sym (feed-done check16 a.start a.octets.now 0 (omega arith))
 
-pub returns-then-n-eq1 : goal.returns-then-n-eq1
-returns-then-n-eq1 c = let a = c.args in
+pub returns-in-len1 : goal.returns-in-len1
+returns-in-len1 c = let a = c.args in
     let s = a.octets.now in
     c.octet_step.ensures ∙ sym (feed-more check16 a.start s 0 (omega arith) ∙ feed-done check16 _ s 1 (omega arith))
 
@@ -30,9 +30,9 @@ overflow_cast-result c = let a = c.args in
     let small : c.word_step.result < 65536 = rw c.word_step.ensures (word_below check16 sound16 (moved % 2 ^ 64) (mod-lt moved (lit< tt))) in
     omega arith
 
-pub returns : goal.returns
+pub returns-in_default : goal.returns-in_default
 unfolding ◌⊕◌
-returns c = let a = c.args in
+returns-in_default c = let a = c.args in
     let s = a.octets.now in
     let n = length s in
     let w = c.short_word in

@@ -18,25 +18,25 @@ unfolding ◌⊕◌
 by-short-word r w v n s h (fits, octets) e =
     rw e (moved_out check32 (8 * n) (bit_xor r w) (omega arith)) ∙ sym (feed-number check32 n r w fits) ∙ ap (feed check32 r) octets
 
-pub returns-then-n-eq0 : goal.returns-then-n-eq0
-returns-then-n-eq0 c = let a = c.args in
+pub returns-in-empty : goal.returns-in-empty
+returns-in-empty c = let a = c.args in
     sym (feed-done check32 a.start a.octets.now 0 (omega arith))
 
-pub returns-then-n-eq1 : goal.returns-then-n-eq1
-returns-then-n-eq1 c = let a = c.args in
+pub returns-in-len1 : goal.returns-in-len1
+returns-in-len1 c = let a = c.args in
     let s = a.octets.now in
     c.octet_step.ensures ∙ sym (feed-more check32 a.start s 0 (omega arith) ∙ feed-done check32 _ s 1 (omega arith))
 
-pub overflow_cast-result-2 : goal.overflow_cast-result-2
-overflow_cast-result-2 c = let a = c.args in
+pub overflow_cast-result-in_default : goal.overflow_cast-result-in_default
+overflow_cast-result-in_default c = let a = c.args in
     let s = a.octets.now in
     let w = c.short_word in
     let e = by-short-word a.start w.result c.word_step.result (length s) s (omega arith) w.ensures c.word_step.ensures in
     let fits = feed-below check32 sound32 a.start s (omega arith) in
     omega arith
 
-pub returns : goal.returns
-returns c = let a = c.args in
+pub returns-in_default : goal.returns-in_default
+returns-in_default c = let a = c.args in
     let s = a.octets.now in
     let w = c.short_word in
     by-short-word a.start w.result c.word_step.result (length s) s (omega arith) w.ensures c.word_step.ensures

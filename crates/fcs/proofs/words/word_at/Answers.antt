@@ -12,9 +12,12 @@ unfolding low_first
 returns c = let a = c.args in
     let s = a.octets.now in
     let i = a.i in
-    let octet : (j : ℕ) → get_or s j 0 < 256 = λ j. omega (arith, c.shared_slice_known-9-1.given j) in
+    let o : ℕ → ℕ = λ j. get_or s (i + j) 0 in
+    let octet : (j : ℕ) → get_or s j 0 < 256 = λ j. omega (arith, c.type_inv.octets j) in
     let last : get_or s (i + 7) 0 ≡ get_or s (i + 7) 0 + 0 * 256 = omega arith in
-    rw c.number.ensures
+    let word : c.from_le_bytes.result
+    ≡ get_or s i 0 + (o 1 + (o 2 + (o 3 + (o 4 + (o 5 + (o 6 + o 7 * 256) * 256) * 256) * 256) * 256) * 256) * 256 = omega arith in
+    rw word
     (in-front s i (i + 1) 7 _ (omega arith) refl (octet i)
     (in-front s (i + 1) (i + 2) 6 _ (omega arith) (omega arith) (octet (i + 1))
     (in-front s (i + 2) (i + 3) 5 _ (omega arith) (omega arith) (octet (i + 2))

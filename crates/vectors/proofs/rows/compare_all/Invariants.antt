@@ -2,5 +2,5 @@
 use Rattle.std.proofs.Common.{length}
 use Rattle.vectors.proofs.rows.compare_all.Given as goal
 
-abbrev pub decreases-loop-rest : goal.decreases-loop-rest
-decreases-loop-rest g l = length l.rest
+abbrev pub decreases-loop-row : goal.decreases-loop-row
+decreases-loop-row g l = length l.left

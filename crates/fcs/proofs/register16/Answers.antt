@@ -1,7 +1,0 @@
--- `fcs::register16` meets its contract: it feeds the register from every bit set.
-use Rattle.fcs.specs.CheckSequence.{register}
-use Rattle.fcs.proofs.register16.Goals as goal
-
-pub returns : goal.returns
-unfolding register
-returns c = c.pppfcs16.ensures
