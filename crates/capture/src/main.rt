@@ -2,7 +2,7 @@
 // is called with is a capture of its own. It reads with document 01's settings (DECISIONS.md). A frame that is not closed prints nothing.
 #![tactic(auto)]
 
-ghost use Rattle.std.specs.Prelude.{◌≤◌};
+ghost use Rattle.std.specs.Prelude.{◌≡◌, ◌≤◌};
 ghost use Rattle.transcript.specs.Transcript.{longest_line};
 
 use files::{Capture, Output, Program, Stopped, System};
@@ -60,8 +60,10 @@ impl Lines {
         }
     }
 
-    // The lines of a stretch of octets, page after page.
-    fn write<P: Print>(&mut self, to: &P, octets: &[u8]) -> io::Result<()> {
+    // The lines of a stretch of octets, page after page, by the same settings.
+    fn write<P: Print>(&mut self, to: &P, octets: &[u8]) -> io::Result<()>
+        ensures { self.new.state.settings ≡ self.old.state.settings }
+    {
         let mut rest = octets;
         while !rest.is_empty() {
             let printed = transcript::print(

@@ -275,26 +275,31 @@ impl<'a, R: System> Program<'a, R> {
         let mut output = Output::new(end);
         for number in 1..end {
             let mut name = [0; 4096];
-            if let Some(file) = self.open(number, &mut name)
-                && let Some(mut capture) = self.begin(file)
-            {
-                each(&mut capture, &mut output)?;
+            if let Some(file) = self.open(number, &mut name) {
+                // made where it stays: a function that returned it would have its octets moved
+                let mut capture = Capture {
+                    file,
+                    buffer: [0; 65536],
+                    got: 0,
+                };
+                if self.begin(&mut capture) {
+                    each(&mut capture, &mut output)?;
+                }
             }
         }
         Ok(())
     }
 
-    // Reads the first octets of a capture. One that cannot be read is complained of.
-    fn begin<'n>(
-        &self,
-        mut file: File<'n, R::File, R::Reader>,
-    ) -> Option<Capture<'n, R::File, R::Reader>> {
-        let mut buffer = [0; 65536];
-        match file.read(&mut buffer) {
-            Ok(got) => Some(Capture { file, buffer, got }),
+    // Reads the first octets of a capture. The answer says whether it could; one that cannot be read is complained of.
+    fn begin(&self, capture: &mut Capture<R::File, R::Reader>) -> bool {
+        match capture.file.read(&mut capture.buffer) {
+            Ok(got) => {
+                capture.got = got;
+                true
+            }
             Err(error) => {
-                self.fail(file.name, b"cannot be read", error);
-                None
+                self.fail(capture.file.name, b"cannot be read", error);
+                false
             }
         }
     }

@@ -86,6 +86,16 @@ fn send<R: System>(
         Ok(sender) => sender,
         Err(error) => return complain_of_settings(program, file.name, head.settings, error),
     };
+    send_behind(program, file, sender, head)
+}
+
+// What is behind the head. (A function of its own, since line and input are large: made in the middle of one they are cleared at its entry too.)
+fn send_behind<R: System>(
+    program: &Program<R>,
+    file: &mut File<R::File, R::Reader>,
+    sender: Sender,
+    head: Head,
+) -> Result<(), Stopped> {
     let mut line = Line::new(program, sender, head.place);
     line.send_records(file, Input::new(head.first))
         .or_else(|fault| line.end(file.name, fault))
@@ -333,16 +343,17 @@ impl<'a, R: System> Line<'a, R> {
         if filled < self.page.len() {
             self.filled = filled;
         } else {
-            self.filled = 0;
             self.print(filled)?;
         }
         Ok(octets)
     }
 
-    // So many octets of the page are written to standard output, or that is complained of.
-    fn print(&self, filled: usize) -> Result<(), Stopped>
+    // So many octets of the page are written to standard output, or that is complained of; either way none is left to be written.
+    fn print(&mut self, filled: usize) -> Result<(), Stopped>
         requires { filled ≤ 65536 }
+        ensures { self.new.filled ≡ 0 }
     {
+        self.filled = 0;
         let written = self.program.rt.write_all(&self.page[..filled]);
         written.or_else(|error| self.program.stop(error))
     }
@@ -350,7 +361,7 @@ impl<'a, R: System> Line<'a, R> {
     // ---- messages
 
     // The line ends at a fault, which is complained of.
-    fn end(&self, name: &[u8], fault: Fault) -> Result<(), Stopped> {
+    fn end(&mut self, name: &[u8], fault: Fault) -> Result<(), Stopped> {
         match fault {
             Fault::Stopped(stopped) => return Err(stopped),
             Fault::Unread(error) => {
@@ -379,7 +390,9 @@ impl<'a, R: System> Line<'a, R> {
     }
 
     // How a message about a record begins, behind what was sent before it. The first record is number 1, the first octet of the file is at place 0.
-    fn complain(&self, name: &[u8]) -> Result<(), Stopped> {
+    fn complain(&mut self, name: &[u8]) -> Result<(), Stopped>
+        ensures { self.new.filled ≡ 0 }
+    {
         if let Err(Stopped::Deserted) = self.print(self.filled) {
             return Err(Stopped::Deserted);
         }

@@ -4,7 +4,7 @@
 ghost use Rattle.std.specs.Prelude.{◌≡◌};
 ghost use Rattle.link.specs.Answers.{report_answer};
 ghost use Rattle.tally.specs.Display.{shown, ShowsThePacket, WithinTheArea, BeyondTheArea};
-ghost use Rattle.tally.specs.Counts.{empty_tally, place, of_frame, refusal_at, note};
+ghost use Rattle.tally.specs.Counts.{largest_count, empty_tally, place, of_frame, refusal_at, note};
 ghost use Rattle.tally.specs.Sums.{FramesCounted, NamedRightly, LargestOf64Bits, EachCount, AddUp, FromEmpty};
 
 use link::receiver::Report;
@@ -127,5 +127,5 @@ pub fn refusal_at(place: usize) -> Option<u8>
 
 // What is claimed of this crate: each theorem that docs/DEMANDS.md names.
 pub fn claims()
-    ensures { ShowsThePacket × WithinTheArea × BeyondTheArea × FramesCounted × NamedRightly × LargestOf64Bits × EachCount × AddUp × FromEmpty }
+    ensures { ShowsThePacket × WithinTheArea × BeyondTheArea × FramesCounted × NamedRightly × LargestOf64Bits × EachCount × AddUp × FromEmpty × (LARGEST ≡ largest_count) }
 {}
